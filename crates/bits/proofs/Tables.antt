@@ -1,0 +1,46 @@
+-- A rule for all numbers below n, and the rule of a table at each of its entries, each from one test that antt computes.
+-- Assumes nothing.
+use mathlib.Core.Path.{_≡_}
+use mathlib.Core.Bool.{Bool, true, false}
+use mathlib.Core.List.{List, [], _∷_}
+use Prim.Native.Nat.{ℕ, zero, suc, _<_}
+use native.Mathlib.Nat.{le-of-suc-le-suc, not-suc-le-zero}
+use lib.Dec.{T, eqb, eqb→eq}
+use lib.ListN.{length, getD}
+
+abbrev pub both : Bool → Bool → Bool
+both true b = b
+both false b = false
+
+both-left : (a b : Bool) → T (both a b) → T a
+both-left true b t = tt
+both-left false b t = t
+
+both-right : (a b : Bool) → T (both a b) → T b
+both-right true b t = t
+both-right false b t = absurd t
+
+-- the test f passes at each number below n
+abbrev pub everyBelow : (ℕ → Bool) → ℕ → Bool
+everyBelow f zero = true
+everyBelow f (suc n) = both (f 0) (everyBelow (λ k. f (suc k)) n)
+
+pub below : (f : ℕ → Bool) (n : ℕ) → T (everyBelow f n) → (k : ℕ) → k < n → T (f k)
+below f zero t k h = absurd (not-suc-le-zero h)
+below f (suc n) t zero h = both-left (f 0) (everyBelow (λ k. f (suc k)) n) t
+below f (suc n) t (suc k) h = below (λ k. f (suc k)) n (both-right (f 0) (everyBelow (λ k. f (suc k)) n) t) k (le-of-suc-le-suc h)
+
+-- two functions agree at each number below n
+pub agree : (f g : ℕ → ℕ) (n : ℕ) → T (everyBelow (λ k. eqb (f k) (g k)) n) → (k : ℕ) → k < n → f k ≡ g k
+agree f g n t k h = eqb→eq (f k) (g k) (below (λ k. eqb (f k) (g k)) n t k h)
+
+-- the entries of a list are the values of f at 0, 1, ..
+abbrev pub tabulated : (ℕ → ℕ) → List ℕ → Bool
+tabulated f [] = true
+tabulated f (x ∷ xs) = both (eqb x (f 0)) (tabulated (λ k. f (suc k)) xs)
+
+pub entry : (f : ℕ → ℕ) (xs : List ℕ) → T (tabulated f xs) → (k : ℕ) → k < length xs → getD xs k 0 ≡ f k
+entry f [] t k h = absurd (not-suc-le-zero h)
+entry f (x ∷ xs) t zero h = eqb→eq x (f 0) (both-left (eqb x (f 0)) (tabulated (λ k. f (suc k)) xs) t)
+entry f (x ∷ xs) t (suc k) h =
+    entry (λ k. f (suc k)) xs (both-right (eqb x (f 0)) (tabulated (λ k. f (suc k)) xs) t) k (le-of-suc-le-suc h)

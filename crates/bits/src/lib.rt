@@ -1,0 +1,13 @@
+// Bytes as bits: a bit, a window, a register's shift, bits put in place; XOR of blocks and the counter.
+mod block;
+mod place;
+mod read;
+mod register;
+mod shift;
+
+pub use block::increment_block;
+pub use block::xor_block;
+pub use place::put_bits;
+pub use read::read_bit;
+pub use read::window;
+pub use register::shift_in;
