@@ -1,0 +1,70 @@
+-- The rule of the S-boxes: the inverse is the inverse, the two boxes undo each other, and a table holds a rule when one
+-- computed test over its entries says so. Assumes nothing.
+use mathlib.Core.Path.{_≡_, ap, _∙_}
+use mathlib.Core.Bool.{Bool}
+use mathlib.Core.List.{List}
+use Prim.Native.Nat.{ℕ, zero, suc, _+_, _*_, _/_, _%_, _^_, _<_}
+use native.Mathlib.Omega.{arith}
+use native.Mathlib.Nat.{zero-lt-suc}
+use lib.Dec.{T, eqb, eqb→eq}
+use lib.ListN.{length}
+use Rattle.bits.specs.Xor.{xor}
+use Rattle.bits.proofs.Tables.{agree, tabulated, entry as entry-of}
+use Rattle.field.specs.Field.{double, shiftAdd, product, square, squares, inverse}
+use Rattle.field.specs.Boxes.{low, fromBits, affine, unaffine, subByte, invSubByte, Tabulates}
+use Rattle.field.proofs.FieldLaws.{product-byte}
+
+-- The product of a byte and its inverse: 1, and 0 for 00.
+pub inverse-product : (b : ℕ) → b < 256 → product b (inverse b) ≡ (b + 255) / 256
+unfolding xor double shiftAdd product square squares inverse
+inverse-product b h = agree (λ b. product b (inverse b)) (λ b. (b + 255) / 256) 256 tt b h
+
+inverse-inverse : (b : ℕ) → b < 256 → inverse (inverse b) ≡ b
+unfolding xor double shiftAdd product square squares inverse
+inverse-inverse b h = agree (λ b. inverse (inverse b)) (λ b. b) 256 tt b h
+
+affine-unaffine : (b : ℕ) → b < 256 → affine (unaffine b) ≡ b
+unfolding low fromBits affine unaffine
+affine-unaffine b h = agree (λ b. affine (unaffine b)) (λ b. b) 256 tt b h
+
+unaffine-affine : (b : ℕ) → b < 256 → unaffine (affine b) ≡ b
+unfolding low fromBits affine unaffine
+unaffine-affine b h = agree (λ b. unaffine (affine b)) (λ b. b) 256 tt b h
+
+fromBits-byte : (f : ℕ → ℕ) → fromBits f < 256
+unfolding fromBits
+fromBits-byte f = omega arith
+
+pub subByte-byte : (b : ℕ) → subByte b < 256
+unfolding subByte affine
+subByte-byte b = fromBits-byte (λ i. low (inverse b) i + low (inverse b) (i + 4) + low (inverse b) (i + 5) + low (inverse b) (i + 6) + low (inverse b) (i + 7) + low 0x63 i)
+
+unaffine-byte : (b : ℕ) → unaffine b < 256
+unfolding unaffine
+unaffine-byte b = fromBits-byte (λ i. low b (i + 2) + low b (i + 5) + low b (i + 7) + low 0x05 i)
+
+squares-byte : (k b : ℕ) → squares k b < 256
+unfolding squares
+squares-byte zero b = omega arith
+squares-byte (suc k) b = product-byte (square b) (squares k (square b)) (squares-byte k (square b))
+
+inverse-byte : (b : ℕ) → inverse b < 256
+unfolding inverse
+inverse-byte b = squares-byte 7 b
+
+pub invSubByte-byte : (b : ℕ) → invSubByte b < 256
+unfolding invSubByte
+invSubByte-byte b = inverse-byte (unaffine b)
+
+pub sub-inv : (b : ℕ) → b < 256 → subByte (invSubByte b) ≡ b
+unfolding subByte invSubByte
+sub-inv b h = ap affine (inverse-inverse (unaffine b) (unaffine-byte b)) ∙ affine-unaffine b h
+
+pub inv-sub : (b : ℕ) → b < 256 → invSubByte (subByte b) ≡ b
+unfolding subByte invSubByte
+inv-sub b h = ap inverse (unaffine-affine (inverse b) (inverse-byte b)) ∙ inverse-inverse b h
+
+pub tabulates : (f : ℕ → ℕ) (table : List ℕ) → T (eqb (length table) 256) → T (tabulated f table) → Tabulates f table
+tabulates f table s t =
+    let e : length table ≡ 256 = eqb→eq (length table) 256 s in
+    record { entries = e; entry = λ b h. entry-of f table t b (omega arith) }

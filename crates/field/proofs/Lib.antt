@@ -1,0 +1,6 @@
+-- Laws about the definitions of specs/, a file to a subject.
+pub mod FieldLaws
+pub mod Linear
+pub mod BoxLaws
+pub mod Fours
+pub mod RowLaws
