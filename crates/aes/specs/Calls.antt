@@ -1,0 +1,46 @@
+-- What the public calls answer (document 01, "The block cipher" and question 1), and the theorem about Enc and Dec.
+use Prim.Native.Nat.{ℕ, _<_, _/_}
+use mathlib.Core.Path.{_≡_}
+use mathlib.Core.Bool.{Bool, true, false, cond}
+use mathlib.Core.List.{List}
+use lib.Dec.{eqb}
+use lib.ListN.{length, replicate}
+use Rattle.bits.specs.Blocks.{Bytes, BlockCipher}
+use Rattle.aes.specs.KeyExpansion.{roundsFor, roundKeys}
+use Rattle.aes.specs.Cipher.{roundsOk, Enc, Dec}
+
+-- Question 1: is the key 16, 24 or 32 bytes long?
+unfoldable pub keyOk : List ℕ → Bool
+keyOk key = cond (eqb (length key) 16) true (cond (eqb (length key) 24) true (eqb (length key) 32))
+
+unfoldable pub keyNumber : List ℕ → ℕ
+keyNumber key = cond (keyOk key) 0 1
+
+-- The rounds of a key, and 0 for a refused one.
+unfoldable pub keyRounds : List ℕ → ℕ
+keyRounds key = cond (keyOk key) (roundsFor (length key / 4)) 0
+
+-- Its 240 round key bytes, and zero bytes for a refused one.
+unfoldable pub keyBytes : List ℕ → List ℕ
+keyBytes key = cond (keyOk key) (roundKeys key) (replicate 240 0)
+
+-- One block under a key; zero bytes for a refused key, whose rounds are 0.
+unfoldable pub encrypted : List ℕ → List ℕ → List ℕ
+encrypted key block = Enc (keyRounds key) (keyBytes key) block
+
+unfoldable pub decrypted : List ℕ → List ℕ → List ℕ
+decrypted key block = Dec (keyRounds key) (keyBytes key) block
+
+-- What `expand` answers, and the one-block calls.
+pub record Expanded (key : List ℕ) (number rounds : ℕ) (keys : List ℕ) : Type 0 where
+  pub answer : number ≡ keyNumber key
+  pub expanded-rounds : rounds ≡ keyRounds key
+  pub expanded-keys : keys ≡ keyBytes key
+
+pub record BlockAnswer (key : List ℕ) (result : List ℕ) (number : ℕ) (block : List ℕ) : Type 0 where
+  pub answer : number ≡ keyNumber key
+  pub answer-block : block ≡ result
+
+-- Enc and Dec undo each other under 10, 12 or 14 rounds and any round keys.
+unfoldable pub UndoEachOther : Type 0
+UndoEachOther = (nr : ℕ) (w : List ℕ) → roundsOk nr ≡ true → Bytes w → BlockCipher (Enc nr w) (Dec nr w)

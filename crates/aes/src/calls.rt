@@ -1,0 +1,65 @@
+// The public calls: expand a key, and encrypt or decrypt one block under a key. A key that is not 16, 24 or 32 bytes long is
+// refused with number 1 and zeros.
+use crate::block;
+use crate::expansion;
+ghost use mathlib.Core.Path.{_≡_};
+ghost use Rattle.aes.specs.Calls.{keyOk, encrypted, decrypted, Expanded, BlockAnswer};
+
+pub struct Schedule {
+    pub number: u8,
+    pub rounds: usize,
+    pub keys: [u8; 240],
+}
+
+pub struct Answer {
+    pub number: u8,
+    pub block: [u8; 16],
+}
+
+fn key_ok(key: &[u8]) -> bool
+    ensures { λ r. ⌜ r ≡ keyOk (now (key .entry)) ⌝ }
+{
+    let n = key.len();
+    n == 16 || n == 24 || n == 32
+}
+
+pub fn expand(key: &[u8]) -> Schedule
+    ensures { λ r. ⌜ Expanded (now (key .entry)) (r .number) (r .rounds) (r .keys) ⌝ }
+{
+    if key_ok(key) {
+        let keys = expansion::round_keys(key);
+        Schedule {
+            number: 0,
+            rounds: key.len() / 4 + 6,
+            keys,
+        }
+    } else {
+        Schedule {
+            number: 1,
+            rounds: 0,
+            keys: [0; 240],
+        }
+    }
+}
+
+pub fn encrypt(key: &[u8], block: [u8; 16]) -> Answer
+    ensures { λ r. ⌜ BlockAnswer (now (key .entry)) (encrypted (now (key .entry)) block) (r .number) (r .block) ⌝ }
+{
+    let schedule = expand(key);
+    let keys = schedule.keys;
+    Answer {
+        number: schedule.number,
+        block: block::encrypt_block(schedule.rounds, &keys, block),
+    }
+}
+
+pub fn decrypt(key: &[u8], block: [u8; 16]) -> Answer
+    ensures { λ r. ⌜ BlockAnswer (now (key .entry)) (decrypted (now (key .entry)) block) (r .number) (r .block) ⌝ }
+{
+    let schedule = expand(key);
+    let keys = schedule.keys;
+    Answer {
+        number: schedule.number,
+        block: block::decrypt_block(schedule.rounds, &keys, block),
+    }
+}
