@@ -1,0 +1,92 @@
+-- What open and feed give, from the answers to their questions. Assumes nothing.
+use Prim.Native.Nat.{ℕ, zero, suc, _+_, _-_, _%_, _≤_}
+use mathlib.Core.Path.{_≡_, refl, sym, ap, _∙_}
+use mathlib.Core.Bool.{Bool, true, false, cond, not}
+use mathlib.Core.List.{List, _++_, append-assoc, append-nil}
+use native.Mathlib.Nat.{suc-ne-zero}
+use native.Mathlib.Omega.{arith}
+use borrow.Author.Tests.{eq-eqb, ne-eqb}
+use lib.Dec.{eqb}
+use lib.ListN.{length, take, drop, length-append, length-drop, drop-of-length-le}
+use lib.Seq.{drop-drop, take-all}
+use Rattle.bits.specs.Texts.{pack}
+use Rattle.aes.specs.Calls.{keyOk, keyNumber}
+use Rattle.rules.specs.declared.Mode.{Mode}
+use Rattle.rules.specs.declared.Direction.{Direction}
+use Rattle.rules.specs.Lengths.{unitLengthOk}
+use Rattle.rules.specs.Rules.{unitsIn}
+use Rattle.modes.specs.declared.session.Session.{Session}
+use Rattle.modes.specs.declared.session.Opened.{Opened}
+use Rattle.modes.specs.declared.session.Fed.{Fed}
+use Rattle.modes.specs.Questions.{ask, ivOk, openQuestions}
+use Rattle.modes.specs.Sessions.{openNumber, openedSession, refusedSession, OpenedBy, fedText, sessionText, sessionRegister, feedNumber, fedSession, written, FedBy}
+
+-- ---- open
+
+pub key-no : (key : List ℕ) → (keyNumber key ≡ 0 → ⊥) → keyOk key ≡ false
+unfolding keyNumber
+key-no key h = go (keyOk key) h
+  where
+    go : (b : Bool) → (_≡_ {A = ℕ} (cond b 0 1) 0 → ⊥) → b ≡ false
+    go true h = absurd (h refl)
+    go false h = refl
+
+pub key-yes : (key : List ℕ) → keyNumber key ≡ 0 → keyOk key ≡ true
+unfolding keyNumber
+key-yes key e = go (keyOk key) e
+  where
+    go : (b : Bool) → _≡_ {A = ℕ} (cond b 0 1) 0 → b ≡ true
+    go true e = refl
+    go false e = absurd (suc-ne-zero 0 e)
+
+module _ (mode : Mode) (dir : Direction) (n : ℕ) (key iv : List ℕ) where
+  opening-refused : (k : ℕ) {s : Session} → openNumber mode n key iv ≡ suc k → s ≡ refusedSession → OpenedBy mode dir n key iv (record { number = suc k; session = s })
+  opening-refused k e f = record { answer = sym e; opened = f ∙ rw (e, ne-eqb (suc k) 0 (suc-ne-zero k)) }
+
+  pub refused-1 : {s : Session} → keyOk key ≡ false → s ≡ refusedSession → OpenedBy mode dir n key iv (record { number = 1; session = s })
+  unfolding openNumber ask openQuestions
+  refused-1 a f = opening-refused 0 (rw a) f
+
+  pub refused-2 : {s : Session} → keyOk key ≡ true → ivOk mode iv ≡ false → s ≡ refusedSession → OpenedBy mode dir n key iv (record { number = 2; session = s })
+  unfolding openNumber ask openQuestions
+  refused-2 a b f = opening-refused 1 (rw (a, b)) f
+
+  pub refused-3 : {s : Session} → keyOk key ≡ true → ivOk mode iv ≡ true → unitLengthOk mode n ≡ false → s ≡ refusedSession → OpenedBy mode dir n key iv (record { number = 3; session = s })
+  unfolding openNumber ask openQuestions
+  refused-3 a b c f = opening-refused 2 (rw (a, b, c)) f
+
+  no-no : keyOk key ≡ true → ivOk mode iv ≡ true → unitLengthOk mode n ≡ true → openNumber mode n key iv ≡ 0
+  unfolding openNumber ask openQuestions
+  no-no a b c = rw (a, b, c)
+
+  pub accepted-opening : {s : Session} → keyOk key ≡ true → ivOk mode iv ≡ true → unitLengthOk mode n ≡ true → s ≡ openedSession mode dir n key iv → OpenedBy mode dir n key iv (record { number = 0; session = s })
+  accepted-opening a b c f = let z = no-no a b c in record { answer = sym z; opened = f ∙ rw z }
+
+-- ---- feed
+
+module _ (s : Session) (input : List ℕ) (count : ℕ) (out : List ℕ) (place : ℕ) where
+  pub feed-refused : {number : ℕ} → number ≡ feedNumber s (length input) count (length out) place → (number ≡ 0 → ⊥)
+      → FedBy s input count out place (record { number = number; session = s }) out
+  feed-refused {number} e no-zero =
+      let f : eqb (feedNumber s (length input) count (length out) place) 0 ≡ false = ne-eqb (feedNumber s (length input) count (length out) place) 0 (λ z. no-zero (e ∙ z)) in
+      record { answer = e; session = rw f; output = rw f }
+
+  pub feed-accepted : {t : Session} {after : List ℕ} → feedNumber s (length input) count (length out) place ≡ 0 → t ≡ fedSession s (fedText input count)
+      → after ≡ written out place (sessionText s (fedText input count)) → FedBy s input count out place (record { number = 0; session = t }) after
+  feed-accepted z e f = record { answer = sym z; session = e ∙ rw z; output = f ∙ rw z }
+
+-- A part that was written at its front, back in its place.
+pub part-written : (out : List ℕ) (place count : ℕ) (x : List Bool) (part : List ℕ) → place ≤ length out → length (pack x) ≡ count → count ≤ length out - place
+    → part ≡ pack x ++ drop count (drop place out)
+    → take place out ++ (part ++ drop (length out - place) (drop place out)) ≡ written out place x
+unfolding written
+part-written out place count x part h l r e =
+    ap (λ p. take place out ++ (part ++ p)) (drop-of-length-le (drop place out) {i = length out - place} (omega (arith, length-drop place out)))
+    ∙ ap (λ p. take place out ++ p) (append-nil part ∙ e ∙ ap (λ p. pack x ++ p) (drop-drop count place out ∙ ap (λ k. drop (place + k) out) (sym l)))
+    ∙ sym (append-assoc (take place out) (pack x) (drop (place + length (pack x)) out))
+
+-- The session that comes back.
+pub moved : (s : Session) (x : List Bool) (count : ℕ) {r : List ℕ} {new : ℕ} → length x ≡ count → r ≡ sessionRegister s x (unitsIn (s .n) count) → new ≡ unitsIn (s .n) count
+    → _≡_ {A = Session} (record { mode = s .mode; direction = s .direction; n = s .n; rounds = s .rounds; keys = s .keys; register = r; units = s .units + new; closed = not (eqb (count % s .n) 0) }) (fedSession s x)
+unfolding fedSession
+moved s x count l p q = rw (l, p, q)

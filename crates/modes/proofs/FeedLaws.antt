@@ -1,0 +1,69 @@
+-- Demand 1 for one feed: a refused one changes nothing, an accepted one exactly the named bytes. Assumes nothing.
+use Prim.Native.Nat.{ℕ}
+use mathlib.Core.Path.{_≡_, sym, _∙_}
+use mathlib.Core.Bool.{true, false}
+use mathlib.Core.List.{List}
+use native.Mathlib.Omega.{arith}
+use lib.Dec.{eqb}
+use lib.ListN.{length, length-take}
+use borrow.Author.Tests.{eq-eqb, ne-eqb}
+use Rattle.bits.proofs.Texts.{length-bits}
+use Rattle.rules.specs.Lengths.{wholeUnits}
+use Rattle.modes.specs.declared.session.Session.{Session}
+use Rattle.modes.specs.declared.session.Fed.{Fed}
+use Rattle.modes.specs.Sessions.{Arrays, FedBy, fedText, fedSession, sessionText, feedNumber, written}
+use Rattle.modes.specs.Promises.{RefusedUnchanged, ExactlyTheNamed, AcceptedExact}
+use Rattle.modes.proofs.QuestionLaws.{FeedTaken, feed-taken}
+use Rattle.modes.proofs.WrittenLaws.{written-before, written-behind, written-text, written-spare, written-size}
+use Rattle.modes.proofs.SessionLaws.{Ready, text-length}
+
+pub refused-unchanged : RefusedUnchanged
+unfolding RefusedUnchanged
+refused-unchanged s input count out place r after fed refused =
+    let nay = ne-eqb (feedNumber s (length input) count (length out) place) 0 (λ e. refused (fed .answer ∙ e)) in
+    (rw nay at (fed .session), rw nay at (fed .output))
+
+module _ {s : Session} {input : List ℕ} {count : ℕ} {out : List ℕ} {place : ℕ} {r : Fed} {after : List ℕ}
+    (fed : FedBy s input count out place r after) (accepted : r .number ≡ 0) where
+  asked : FeedTaken (s .mode) (s .rounds) (s .n) (s .closed) (s .units) (length input) count (length out) place
+  unfolding feedNumber
+  asked = feed-taken (s .mode) (s .rounds) (s .n) (s .closed) (s .units) (length input) count (length out) place (sym (fed .answer) ∙ accepted)
+
+  pub accepted-not-closed : s .closed ≡ false
+  accepted-not-closed = asked .not-closed
+
+  pub accepted-count : length (fedText input count) ≡ count
+  unfolding fedText
+  accepted-count = simp (length-take, length-bits) (omega (arith, asked .there))
+
+  pub accepted-whole : wholeUnits (s .mode) (s .n) (length (fedText input count)) ≡ true
+  accepted-whole = rw accepted-count (asked .whole)
+
+  pub accepted-ready : Arrays s → Ready s
+  accepted-ready arrays = record { arrays = arrays; rounds-good = asked .rounds-good; unit = asked .unit }
+
+  number-zero : eqb (feedNumber s (length input) count (length out) place) 0 ≡ true
+  number-zero = eq-eqb (feedNumber s (length input) count (length out) place) 0 (sym (fed .answer) ∙ accepted)
+
+  pub accepted-session : r .session ≡ fedSession s (fedText input count)
+  accepted-session = rw number-zero at (fed .session)
+
+  accepted-output : after ≡ written out place (sessionText s (fedText input count))
+  accepted-output = rw number-zero at (fed .output)
+
+  pub accepted-named : Arrays s → ExactlyTheNamed s input count out place after
+  accepted-named arrays =
+      let x = sessionText s (fedText input count) in
+      let size : length x ≡ count = text-length (accepted-ready arrays) (fedText input count) accepted-whole ∙ accepted-count in
+      rw accepted-output
+      (record {
+        same-size = written-size out place x (asked .inside) (rw size (asked .room));
+        before = written-before out place x (asked .inside);
+        behind = rw size at (written-behind out place x (asked .inside));
+        text = rw size at (written-text out place x (asked .inside));
+        spare = rw size at (written-spare out place x (asked .inside));
+      })
+
+pub accepted-exact : AcceptedExact
+unfolding AcceptedExact
+accepted-exact s input count out place r after arrays fed accepted = accepted-named fed accepted arrays

@@ -1,0 +1,16 @@
+-- Laws about the definitions of specs/, a file to a subject, and the proofs of the promises.
+pub mod TestLaws
+pub mod TurnLaws
+pub mod WorkLaws
+pub mod QuestionLaws
+pub mod AnswerLaws
+pub mod WrittenLaws
+pub mod SessionLaws
+pub mod FeedLaws
+pub mod RunLaws
+pub mod OpeningLaws
+pub mod OpenedRuns
+pub mod DemandTwo
+pub mod MachineLaws
+pub mod AgreementLaws
+pub mod DemandThree

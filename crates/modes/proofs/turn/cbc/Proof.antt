@@ -1,0 +1,43 @@
+-- The unit and the register are added before the block function, or after it. Assumes nothing.
+use Rattle.bits.proofs.Owned.{arrays}
+use Rattle.modes.proofs.TurnLaws as Law
+use borrow.Author.Needs.{needs}
+use Rattle.modes.proofs.turn.cbc.Statement.{statement}
+use Rattle.modes.proofs.turn.cbc.Tie as tie
+
+enum-told : tie.Need-enum-told
+enum-told c = search needs
+
+xor-block-requires : tie.Need-xor-block-requires
+xor-block-requires c κs = search needs
+
+encrypt-block-requires : tie.Need-encrypt-block-requires
+encrypt-block-requires c κs = search needs
+
+enum-told-2 : tie.Need-enum-told-2
+enum-told-2 c = search needs
+
+decrypt-block-requires : tie.Need-decrypt-block-requires
+decrypt-block-requires c κs = search needs
+
+xor-block-requires-2 : tie.Need-xor-block-requires-2
+xor-block-requires-2 c κs = search needs
+
+returns : tie.Need-returns
+returns c = rw (c .before .before .enum-told .given .1) (Law.cbc-encrypted _ _ (search arrays) (search arrays) (search arrays) (cc))
+
+returns-2 : tie.Need-returns-2
+returns-2 c = rw (c .before .before .enum-told2 .given .1) (Law.cbc-decrypted _ _ (search arrays) (search arrays) (search arrays) (cc))
+
+pub cbc-spec : {M : Type 1} → statement M
+cbc-spec =
+    tie.close
+    (tie.spec
+    enum-told
+    xor-block-requires
+    encrypt-block-requires
+    enum-told-2
+    decrypt-block-requires
+    xor-block-requires-2
+    returns
+    returns-2)

@@ -1,0 +1,69 @@
+-- The window over the part of the input reads the unit, the turn works it, and its bits are put where they belong. Assumes nothing.
+use Prim.Native.Nat.{_*_, _/_, _%_, _-_}
+use mathlib.Core.Path.{_≡_, ap, _∙_}
+use native.Mathlib.Omega.{arith}
+use lib.ListN.{length, take, drop}
+use Rattle.bits.specs.Texts.{bits, packTo}
+use Rattle.modes.specs.Turns.{unitSizeOk}
+use Rattle.modes.proofs.WorkLaws.{part-all, unit-inside, unit-size-ok, unit-fits, unit-worked}
+use borrow.Author.Needs.{needs}
+use Rattle.modes.proofs.work.work_unit.Statement.{statement}
+use Rattle.modes.proofs.work.work_unit.Tie as tie
+
+mul-at : tie.Need-mul-at
+mul-at c = let p = c .before .before .pre in omega (arith, unit-inside (p .0) (p .1), p .0 .small)
+
+sub-smaller : tie.Need-sub-smaller
+sub-smaller c = let p = c .before .before .pre in omega (arith, unit-inside (p .0) (p .1))
+
+smaller-requires : tie.Need-smaller-requires
+smaller-requires c κs = search needs
+
+sub-window : tie.Need-sub-window
+sub-window c = let p = c .before .before .before .pre in omega (arith, unit-inside (p .0) (p .1), p .0 .within)
+
+part-window-start : tie.Need-part-window-start
+part-window-start c = let p = c .before .before .before .pre in omega (arith, unit-inside (p .0) (p .1), p .0 .within)
+
+part-window-end : tie.Need-part-window-end
+part-window-end c = search needs
+
+window-requires : tie.Need-window-requires
+window-requires c κs = search needs
+
+turn-requires : tie.Need-turn-requires
+turn-requires c κs = let p = c .before .before .before .before .before .pre in ap (unitSizeOk _) (c .before .before .smaller .ensures) ∙ unit-size-ok (p .0) (p .1)
+
+put-bits-requires : tie.Need-put-bits-requires
+put-bits-requires c κs = let s = c .before .before .before .before .before in let p = s .before .before .before .pre in omega (arith, unit-fits (p .0) (p .1), s .smaller .ensures)
+
+same-length : tie.Need-same-length
+same-length c = search needs
+
+returns : tie.Need-returns
+returns c =
+    let turned = c .before .before .before .before .before .before in
+    let read = turned .before in
+    let small = read .before .before in
+    let s = small .before .before .before in
+    let a = s .args in
+    let at = a .t * a .n in
+    unit-worked (s .pre .0) (s .pre .1) (a .direction) (a .register) (small .smaller .ensures)
+    (read .window .ensures ∙ ap (λ l. packTo 16 (take (small .smaller .result) (drop (at % 8) (bits l)))) (part-all (at / 8) (a .input .now))) (turned .turn .ensures)
+    (c .before .before .before .put-bits .ensures)
+
+pub work-unit-spec : {M : Type 1} → statement M
+work-unit-spec =
+    tie.close
+    (tie.spec
+    mul-at
+    sub-smaller
+    smaller-requires
+    sub-window
+    part-window-start
+    part-window-end
+    window-requires
+    turn-requires
+    put-bits-requires
+    same-length
+    returns)

@@ -1,0 +1,8 @@
+-- Sessions, what each call answers, the plain machine, lists of calls, and what is promised of them.
+pub mod Questions
+pub mod Sessions
+pub mod Turns
+pub mod Works
+pub mod Machine
+pub mod Lists
+pub mod Promises

@@ -1,0 +1,51 @@
+-- Lists of calls: each is a feed on the session that the one before returned, with its own input and output, and each step is
+-- the feed's own `ensures` clause. So what is shown of a list is shown of the code.
+use Prim.Native.Nat.{ℕ}
+use mathlib.Core.Path.{_≡_}
+use mathlib.Core.Bool.{Bool, true, false, cond}
+use mathlib.Core.List.{List, [], _∷_, _++_}
+use lib.Dec.{eqb}
+use lib.ListN.{length, take, drop}
+use Rattle.bits.specs.Texts.{bits}
+use Rattle.modes.specs.declared.session.Session.{Session}
+use Rattle.modes.specs.declared.session.Fed.{Fed}
+use Rattle.modes.specs.Sessions.{FedBy}
+use Rattle.modes.specs.Machine.{Machine, machineFeed}
+
+-- One feed: what it was handed, what it returned, and the output afterwards.
+pub record Call : Type 0 where
+  pub input : List ℕ
+  pub count : ℕ
+  pub out : List ℕ
+  pub place : ℕ
+  pub result : Fed
+  pub after : List ℕ
+
+-- The calls, one after the other, take the session s to the session t.
+pub data Run : Session → List Call → Session → Type 0 where
+  done : {s : Session} → Run s [] s
+  fed : {s t : Session} {c : Call} {cs : List Call} → FedBy s (c .input) (c .count) (c .out) (c .place) (c .result) (c .after) → Run (c .result .session) cs t → Run s (c ∷ cs) t
+
+-- The bits that a call was fed, and those that it wrote, where it was accepted.
+unfoldable pub accepted : Call → Bool
+accepted c = eqb (c .result .number) 0
+
+unfoldable pub fedBits : Call → List Bool
+fedBits c = cond (accepted c) (take (c .count) (bits (c .input))) []
+
+unfoldable pub writtenBits : Call → List Bool
+writtenBits c = cond (accepted c) (take (c .count) (bits (drop (c .place) (c .after)))) []
+
+-- Joined in order.
+unfoldable pub allFed : List Call → List Bool
+allFed [] = []
+allFed (c ∷ cs) = fedBits c ++ allFed cs
+
+unfoldable pub allWritten : List Call → List Bool
+allWritten [] = []
+allWritten (c ∷ cs) = writtenBits c ++ allWritten cs
+
+-- The plain machine after the same list.
+unfoldable pub machineAfter : Machine → List Call → Machine
+machineAfter m [] = m
+machineAfter m (c ∷ cs) = machineAfter (machineFeed m (c .input) (c .count) (length (c .out)) (c .place)) cs

@@ -1,0 +1,135 @@
+-- Demands 1, 2 and 3 for the calls `open` and `feed`.
+use Prim.Native.Nat.{ℕ, suc, _+_, _*_, _≤_, _<_}
+use mathlib.Core.Path.{_≡_}
+use mathlib.Core.Logic.{_↔_}
+use mathlib.Core.Bool.{Bool, true, false}
+use mathlib.Core.List.{List, [], _∷_, _++_}
+use lib.ListN.{length, getD, take, drop}
+use Rattle.bits.specs.Texts.{bits, bytesFor}
+use Rattle.bits.specs.Blocks.{Bytes}
+use Rattle.rules.specs.declared.Mode.{Mode}
+use Rattle.rules.specs.declared.Mode.the-variants.{Cbc}
+use Rattle.rules.specs.declared.Direction.{Direction}
+use Rattle.rules.specs.declared.Direction.the-variants.{Decrypt}
+use Rattle.rules.specs.Rules.{unitAt, unitsIn}
+use Rattle.rules.specs.Standard.{standard}
+use Rattle.rules.specs.Recovery.{recovers, recoveryUnits}
+use Rattle.rules.specs.Promises.{other, CommonRun, Differ, OneBlockChanged, OneBlockDamaged}
+use Rattle.modes.specs.declared.session.Session.{Session}
+use Rattle.modes.specs.declared.session.Opened.{Opened}
+use Rattle.modes.specs.declared.session.Fed.{Fed}
+use Rattle.modes.specs.Questions.{Question, ask, feedQuestions}
+use Rattle.modes.specs.Sessions.{Arrays, OpenedBy, FedBy, sessionText, fedText}
+use Rattle.modes.specs.Machine.{Opening, Machine, encOf, decOf, machineStart, machineNumber, machineFeed, machineRegister}
+use Rattle.modes.specs.Lists.{Call, Run, allFed, allWritten, writtenBits, machineAfter}
+
+-- ---- Demand 1, for a manager
+
+-- Refused means unchanged.
+unfoldable pub RefusedUnchanged : Type 0
+RefusedUnchanged =
+    (s : Session) (input : List ℕ) (count : ℕ) (out : List ℕ) (place : ℕ) (r : Fed) (after : List ℕ)
+    → FedBy s input count out place r after → (r .number ≡ 0 → ⊥) → (r .session ≡ s) × (after ≡ out)
+
+-- Accepted means exactly the named bytes: `bytesFor count` of them, from `place` on, with the text in their first bits and 0 in
+-- the spare ones; every byte before and after keeps its value.
+pub record ExactlyTheNamed (s : Session) (input : List ℕ) (count : ℕ) (out : List ℕ) (place : ℕ) (after : List ℕ) : Type 0 where
+  pub same-size : length after ≡ length out
+  pub before : take place after ≡ take place out
+  pub behind : drop (place + bytesFor count) after ≡ drop (place + bytesFor count) out
+  pub text : take count (bits (drop place after)) ≡ sessionText s (fedText input count)
+  pub spare : (b : ℕ) → count ≤ b → b < bytesFor count * 8 → getD (bits (drop place after)) b false ≡ false
+
+unfoldable pub AcceptedExact : Type 0
+AcceptedExact =
+    (s : Session) (input : List ℕ) (count : ℕ) (out : List ℕ) (place : ℕ) (r : Fed) (after : List ℕ)
+    → Arrays s → FedBy s input count out place r after → r .number ≡ 0 → ExactlyTheNamed s input count out place after
+
+-- The number is that of the first question answered 'no': those before it are answered 'yes'.
+pub data FirstNo : List Question → ℕ → Type 0 where
+  all-yes : FirstNo [] 0
+  here : {q : Question} {qs : List Question} → q .yes ≡ false → FirstNo (q ∷ qs) (q .number)
+  later : {q : Question} {qs : List Question} {k : ℕ} → q .yes ≡ true → FirstNo qs k → FirstNo (q ∷ qs) k
+
+unfoldable pub NumberIsFirstNo : Type 0
+NumberIsFirstNo = (qs : List Question) → FirstNo qs (ask qs)
+
+-- ---- Demand 2
+
+-- A list of feeds on an opened session, in either direction and whatever the cuts.
+pub record TextOf (mode : Mode) (dir : Direction) (n : ℕ) (key iv : List ℕ) (calls : List Call) (t : Session) : Type 0 where
+  pub standard-text : allWritten calls ≡ standard (encOf (record { mode = mode; n = n; key = key; iv = iv })) (decOf (record { mode = mode; n = n; key = key; iv = iv })) mode dir n iv (allFed calls)
+  pub units : t .units ≡ unitsIn n (length (allFed calls))
+
+unfoldable pub DemandTwo : Type 0
+DemandTwo =
+    (mode : Mode) (dir : Direction) (n : ℕ) (key iv : List ℕ) (r : Opened) (calls : List Call) (t : Session)
+    → Bytes key → Bytes iv → OpenedBy mode dir n key iv r → r .number ≡ 0 → Run (r .session) calls t
+    → TextOf mode dir n key iv calls t
+
+-- Two sessions opened alike but for direction undo each other, each list cut in its own way.
+unfoldable pub UndoneByTheOther : Type 0
+UndoneByTheOther =
+    (mode : Mode) (dir : Direction) (n : ℕ) (key iv : List ℕ) (r q : Opened) (calls back : List Call) (t u : Session)
+    → Bytes key → Bytes iv → OpenedBy mode dir n key iv r → r .number ≡ 0 → OpenedBy mode (other dir) n key iv q → q .number ≡ 0
+    → Run (r .session) calls t → Run (q .session) back u → allFed back ≡ allWritten calls → allWritten back ≡ allFed calls
+
+-- ---- Demand 3
+
+-- After a feed: R, units and closing are the machine's, and so is the plaintext that was written up to there.
+pub record Same (m : Machine) (s : Session) (plaintext : List Bool) : Type 0 where
+  pub register : s .register ≡ m .register
+  pub units : s .units ≡ m .units
+  pub closed : s .closed ≡ m .closed
+  pub text : plaintext ≡ m .plaintext
+
+-- That after each feed of a list, refused ones too, with the number that it answered; `w` is what was written before.
+unfoldable pub AgreesThroughout : Machine → List Bool → List Call → Type 0
+AgreesThroughout m w [] = Unit {0}
+AgreesThroughout m w (c ∷ cs) =
+    record {
+      number : c .result .number ≡ machineNumber m (length (c .input)) (c .count) (length (c .out)) (c .place);
+      same : Same (machineFeed m (c .input) (c .count) (length (c .out)) (c .place)) (c .result .session) (w ++ writtenBits c);
+      rest : AgreesThroughout (machineFeed m (c .input) (c .count) (length (c .out)) (c .place)) (w ++ writtenBits c) cs;
+    }
+
+-- The one claim over two lists of decrypting feeds with equal mode, key and n. x and y are the ciphertexts that the machines
+-- took, p and q their plaintexts.
+module _ (mode : Mode) (n : ℕ) (key v w : List ℕ) (calls others : List Call) where
+  abbrev first : Opening
+  first = record { mode = mode; n = n; key = key; iv = v }
+
+  abbrev second : Opening
+  second = record { mode = mode; n = n; key = key; iv = w }
+
+  abbrev x : List Bool
+  x = machineAfter (machineStart first) calls .ciphertext
+
+  abbrev y : List Bool
+  y = machineAfter (machineStart second) others .ciphertext
+
+  abbrev p : List Bool
+  p = machineAfter (machineStart first) calls .plaintext
+
+  abbrev q : List Bool
+  q = machineAfter (machineStart second) others .plaintext
+
+  pub record Recovered : Type 0 where
+    -- equality with the plain machine, after every feed of each list
+    pub machine : AgreesThroughout (machineStart first) [] calls
+    pub other-machine : AgreesThroughout (machineStart second) [] others
+    -- the registers below are the machines' own: the last of each is its R
+    pub registers : machineAfter (machineStart first) calls .register ≡ machineRegister first x (machineAfter (machineStart first) calls .units)
+    pub other-registers : machineAfter (machineStart second) others .register ≡ machineRegister second y (machineAfter (machineStart second) others .units)
+    -- recovery after loss: for every common run, wherever it begins, plaintext units and registers
+    pub run-plain : recovers mode ≡ true → (i j k : ℕ) → CommonRun n x y i j k → (t : ℕ) → recoveryUnits mode n ≤ t → t < k → unitAt n p (i + t) ≡ unitAt n q (j + t)
+    pub run-registers : recovers mode ≡ true → (i j k : ℕ) → CommonRun n x y i j k → (t : ℕ) → recoveryUnits mode n ≤ t → t ≤ k → machineRegister first x (i + t) ≡ machineRegister second y (j + t)
+    -- reach of damage: one changed block in CBC; in OFB and CTR exactly the changed bits
+    pub one-block : mode ≡ Cbc → v ≡ w → (j : ℕ) → OneBlockChanged x y j → OneBlockDamaged x y p q j
+    pub same-bits : recovers mode ≡ false → v ≡ w → length x ≡ length y → (b : ℕ) → Differ p q b ↔ Differ x y b
+
+unfoldable pub DemandThree : Type 0
+DemandThree =
+    (mode : Mode) (n : ℕ) (key v w : List ℕ) (r q : Opened) (calls others : List Call) (t u : Session)
+    → Bytes key → Bytes v → Bytes w → OpenedBy mode Decrypt n key v r → r .number ≡ 0 → OpenedBy mode Decrypt n key w q → q .number ≡ 0
+    → Run (r .session) calls t → Run (q .session) others u → Recovered mode n key v w calls others

@@ -1,0 +1,82 @@
+-- What open and feed give, for all arguments: the number, the session and every byte of the output.
+use Prim.Native.Nat.{ℕ, _+_, _%_}
+use mathlib.Core.Path.{_≡_}
+use mathlib.Core.Bool.{Bool, true, false, cond, not}
+use mathlib.Core.List.{List, [], _++_}
+use lib.Dec.{eqb}
+use lib.ListN.{length, take, drop, replicate}
+use Rattle.bits.specs.Texts.{bits, pack}
+use Rattle.bits.specs.Blocks.{Bytes, Block}
+use Rattle.aes.specs.Cipher.{Enc, Dec}
+use Rattle.aes.specs.Calls.{keyRounds, keyBytes}
+use Rattle.rules.specs.declared.Mode.{Mode}
+use Rattle.rules.specs.declared.Mode.the-variants.{Ecb}
+use Rattle.rules.specs.declared.Direction.{Direction}
+use Rattle.rules.specs.declared.Direction.the-variants.{Encrypt}
+use Rattle.rules.specs.Rules.{start, unitsIn, registerAt, worked}
+use Rattle.modes.specs.declared.session.Session.{Session}
+use Rattle.modes.specs.declared.session.Opened.{Opened}
+use Rattle.modes.specs.declared.session.Fed.{Fed}
+use Rattle.modes.specs.Questions.{ask, openQuestions, feedQuestions}
+
+-- What a session's type says of its arrays, and the list of a contract does not: 16 register bytes, and key bytes.
+pub record Arrays (s : Session) : Type 0 where
+  pub register : Block (s .register)
+  pub keys : Bytes (s .keys)
+
+-- ---- open
+
+unfoldable pub openNumber : Mode → ℕ → List ℕ → List ℕ → ℕ
+openNumber mode n key iv = ask (openQuestions mode n key iv)
+
+-- A refused opening: a closed ECB encrypting session with n, rounds, units and all bytes 0.
+unfoldable pub refusedSession : Session
+refusedSession =
+    record { mode = Ecb; direction = Encrypt; n = 0; rounds = 0; keys = replicate 240 0; register = replicate 16 0; units = 0; closed = true }
+
+unfoldable pub openedSession : Mode → Direction → ℕ → List ℕ → List ℕ → Session
+openedSession mode dir n key iv =
+    record { mode = mode; direction = dir; n = n; rounds = keyRounds key; keys = keyBytes key; register = start mode iv; units = 0; closed = false }
+
+pub record OpenedBy (mode : Mode) (dir : Direction) (n : ℕ) (key iv : List ℕ) (r : Opened) : Type 0 where
+  pub answer : r .number ≡ openNumber mode n key iv
+  pub opened : r .session ≡ cond (eqb (openNumber mode n key iv) 0) (openedSession mode dir n key iv) refusedSession
+
+-- ---- feed
+
+-- The feed's text: its first bits, from the input's first bit on.
+unfoldable pub fedText : List ℕ → ℕ → List Bool
+fedText input count = take count (bits input)
+
+-- What a session makes of a text, and its register after so many units of it.
+unfoldable pub sessionText : Session → List Bool → List Bool
+sessionText s x = worked (Enc (s .rounds) (s .keys)) (Dec (s .rounds) (s .keys)) (s .mode) (s .direction) (s .n) (s .register) x
+
+unfoldable pub sessionRegister : Session → List Bool → ℕ → List ℕ
+sessionRegister s x t = registerAt (Enc (s .rounds) (s .keys)) (Dec (s .rounds) (s .keys)) (s .mode) (s .direction) (s .n) (s .register) x t
+
+unfoldable pub feedNumber : Session → ℕ → ℕ → ℕ → ℕ → ℕ
+feedNumber s bytes count size place = ask (feedQuestions (s .mode) (s .rounds) (s .n) (s .closed) (s .units) bytes count size place)
+
+-- The session after an accepted feed of x: the register moved by its units, the units counted, closed by a short one.
+unfoldable pub fedSession : Session → List Bool → Session
+fedSession s x =
+    record {
+      mode = s .mode;
+      direction = s .direction;
+      n = s .n;
+      rounds = s .rounds;
+      keys = s .keys;
+      register = sessionRegister s x (unitsIn (s .n) (length x));
+      units = s .units + unitsIn (s .n) (length x);
+      closed = not (eqb (length x % s .n) 0);
+    }
+
+-- The output up to the place, the bytes of the text, the output after them.
+unfoldable pub written : List ℕ → ℕ → List Bool → List ℕ
+written out place x = take place out ++ pack x ++ drop (place + length (pack x)) out
+
+pub record FedBy (s : Session) (input : List ℕ) (count : ℕ) (out : List ℕ) (place : ℕ) (r : Fed) (after : List ℕ) : Type 0 where
+  pub answer : r .number ≡ feedNumber s (length input) count (length out) place
+  pub session : r .session ≡ cond (eqb (feedNumber s (length input) count (length out) place) 0) (fedSession s (fedText input count)) s
+  pub output : after ≡ cond (eqb (feedNumber s (length input) count (length out) place) 0) (written out place (sessionText s (fedText input count))) out

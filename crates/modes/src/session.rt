@@ -1,0 +1,141 @@
+// Sessions: opened under a key and an IV, and fed; a feed takes the session and gives the next one.
+use crate::questions;
+use crate::work;
+use rules::Direction;
+use rules::Mode;
+ghost use mathlib.Core.Path.{_≡_};
+ghost use Rattle.modes.specs.Sessions.{OpenedBy, FedBy, refusedSession};
+
+// A session, as document 01 lists it. `n` is the unit's bits, `register` is R.
+pub struct Session {
+    pub mode: Mode,
+    pub direction: Direction,
+    pub n: usize,
+    pub rounds: usize,
+    pub keys: [u8; 240],
+    pub register: [u8; 16],
+    pub units: u32,
+    pub closed: bool,
+}
+
+// What an opening and a feed give: the number, 0 or that of the first question answered 'no', and the session.
+pub struct Opened {
+    pub number: u8,
+    pub session: Session,
+}
+
+pub struct Fed {
+    pub number: u8,
+    pub session: Session,
+}
+
+impl Session {
+    // The block, in bytes, and the largest feed, in bits.
+    pub const BLOCK: usize = 16;
+
+    pub const MAX_BITS: usize = 524288;
+
+    fn refused() -> Session
+        ensures { λ r. ⌜ r ≡ refusedSession ⌝ }
+    {
+        Session {
+            mode: Mode::Ecb,
+            direction: Direction::Encrypt,
+            n: 0,
+            rounds: 0,
+            keys: [0; 240],
+            register: [0; 16],
+            units: 0,
+            closed: true,
+        }
+    }
+
+    pub fn open(mode: Mode, direction: Direction, n: usize, key: &[u8], iv: &[u8]) -> Opened
+        ensures { λ r. ⌜ OpenedBy mode direction n (now (key .entry)) (now (iv .entry)) r ⌝ }
+    {
+        let schedule = aes::expand(key);
+        if schedule.number != 0 {
+            return Opened {
+                number: 1,
+                session: Session::refused(),
+            };
+        }
+        if !questions::iv_ok(mode, iv) {
+            return Opened {
+                number: 2,
+                session: Session::refused(),
+            };
+        }
+        if !rules::unit_length_ok(mode, n) {
+            return Opened {
+                number: 3,
+                session: Session::refused(),
+            };
+        }
+        // The IV, and zero bytes where there is none.
+        let register = bits::window(iv, 0, 128);
+        let keys = schedule.keys;
+        let session = Session {
+            mode,
+            direction,
+            n,
+            rounds: schedule.rounds,
+            keys,
+            register,
+            units: 0,
+            closed: false,
+        };
+        Opened { number: 0, session }
+    }
+
+    // Feeds the first `bits` bits of `input`, and writes what they become from out[place] on.
+    pub fn feed(self, input: &[u8], bits: usize, out: &mut [u8], place: usize) -> Fed
+        ensures { λ r. ⌜ FedBy self (now (input .entry)) bits (now (out .entry)) place r (now (out .exit)) ⌝ }
+    {
+        let mode = self.mode;
+        let direction = self.direction;
+        let number = questions::feed_number(
+            mode,
+            self.rounds,
+            self.n,
+            self.closed,
+            self.units,
+            input.len(),
+            bits,
+            out.len(),
+            place,
+        );
+        if number != 0 {
+            return Fed {
+                number,
+                session: self,
+            };
+        }
+        let keys = self.keys;
+        let register = self.register;
+        let n = self.n;
+        let next = work::work(
+            mode,
+            direction,
+            n,
+            self.rounds,
+            &keys,
+            register,
+            input,
+            bits,
+            &mut out[place..],
+        );
+        let units = self.units + questions::units_in(n, bits) as u32;
+        let session = Session {
+            mode,
+            direction,
+            n,
+            rounds: self.rounds,
+            keys,
+            register: next,
+            units,
+            closed: bits % n != 0,
+        };
+        Fed { number: 0, session }
+    }
+}

@@ -1,0 +1,28 @@
+// A line: a label, numbers, bytes in hexadecimal, its end.
+use libc::STDOUT_FILENO;
+
+pub fn label(text: &[u8]) {
+    io::write_all(STDOUT_FILENO, text);
+}
+
+pub fn number(n: u64) {
+    io::write_all(STDOUT_FILENO, b" ");
+    io::print_decimal(STDOUT_FILENO, n);
+}
+
+pub fn bytes(b: &[u8]) {
+    io::write_all(STDOUT_FILENO, b" ");
+    let mut i = 0;
+    while i < b.len() {
+        io::print_hex(STDOUT_FILENO, b[i] as u64, 2);
+        i += 1;
+    }
+}
+
+pub fn end() {
+    io::write_all(STDOUT_FILENO, b"\n");
+}
+
+pub fn block(b: [u8; 16]) {
+    bytes(&b);
+}
