@@ -1,0 +1,2 @@
+-- One table of worked examples, and its one test.
+pub mod Examples

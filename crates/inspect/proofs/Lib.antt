@@ -1,0 +1,7 @@
+-- Laws about the definitions of specs/, a file to a subject, and the proofs of the promises.
+pub mod NumberLaws
+pub mod NeighbourLaws
+pub mod AnswerLaws
+pub mod FeedLaws
+pub mod SameLaws
+pub mod AlikeLaws

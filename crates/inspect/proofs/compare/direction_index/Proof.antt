@@ -1,0 +1,22 @@
+-- `inspect::compare::direction_index` meets its contract. Assumes nothing.
+use Rattle.inspect.specs.Alike.{directionIndex}
+use borrow.Author.Needs.{needs}
+use Rattle.inspect.proofs.compare.direction_index.Statement.{statement}
+use Rattle.inspect.proofs.compare.direction_index.Tie as tie
+
+enum-told : tie.Need-enum-told
+enum-told c = search needs
+
+enum-told-2 : tie.Need-enum-told-2
+enum-told-2 c = search needs
+
+returns : tie.Need-returns
+unfolding directionIndex
+returns c = cc
+
+returns-2 : tie.Need-returns-2
+unfolding directionIndex
+returns-2 c = cc
+
+pub direction-index-spec : {M : Type 1} → statement M
+direction-index-spec = tie.close (tie.spec enum-told enum-told-2 returns returns-2)

@@ -1,0 +1,32 @@
+-- What is promised of a single CBC block and of sessions that are alike.
+use Prim.Native.Nat.{ℕ}
+use mathlib.Core.Path.{_≡_}
+use mathlib.Core.Logic.{_↔_}
+use mathlib.Core.Bool.{true}
+use mathlib.Core.List.{List}
+use lib.ListN.{length}
+use Rattle.bits.specs.Texts.{bits}
+use Rattle.bits.specs.Blocks.{Bytes}
+use Rattle.rules.specs.declared.Mode.the-variants.{Cbc}
+use Rattle.rules.specs.declared.Direction.the-variants.{Decrypt}
+use Rattle.rules.specs.Rules.{unitAt}
+use Rattle.modes.specs.declared.session.Session.{Session}
+use Rattle.modes.specs.declared.session.Opened.{Opened}
+use Rattle.modes.specs.Sessions.{OpenedBy, sessionText}
+use Rattle.inspect.specs.Single.{blockOk, plainBlock}
+use Rattle.inspect.specs.Alike.{Alike, alikeTo}
+
+-- For every j the single block is block j of what a whole decrypting CBC feed of the ciphertext gives.
+unfoldable pub BlockOfTheFeed : Type 0
+BlockOfTheFeed =
+    (key iv text : List ℕ) (j : ℕ) (r : Opened) → Bytes key → Bytes iv → Bytes text → OpenedBy Cbc Decrypt 128 key iv r → r .number ≡ 0
+    → blockOk (length text) j ≡ true → bits (plainBlock key iv text j) ≡ unitAt 128 (sessionText (r .session) (bits text)) j
+
+-- What a session's type says of its arrays, and a contract's lists do not: 240 round key bytes and 16 register bytes.
+pub record Sizes (s : Session) : Type 0 where
+  pub keys : length (s .keys) ≡ 240
+  pub register : length (s .register) ≡ 16
+
+-- The test's 'yes' is 'alike', both ways, for sessions with any numbers in them.
+unfoldable pub AlikeExactly : Type 0
+AlikeExactly = (a b : Session) → Sizes a → Sizes b → (alikeTo a b ≡ true) ↔ Alike a b

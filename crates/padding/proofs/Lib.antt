@@ -1,0 +1,6 @@
+-- Laws about the definitions of specs/, a file to a subject, and the proofs of the promises.
+pub mod NumberLaws
+pub mod PadLaws
+pub mod OneLaws
+pub mod AnswerLaws
+pub mod PromiseLaws

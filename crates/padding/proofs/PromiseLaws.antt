@@ -1,0 +1,77 @@
+-- The promises of padded texts. Assumes nothing.
+use Prim.Native.Nat.{ℕ, suc, _-_, _*_, _≤_}
+use mathlib.Core.Path.{_≡_, sym, _∙_}
+use mathlib.Core.Bool.{Bool, true}
+use mathlib.Core.List.{List}
+use native.Mathlib.Omega.{arith}
+use borrow.Author.Tests.{eq-eqb}
+use lib.Dec.{eqb}
+use lib.ListN.{length, drop}
+use Rattle.bits.specs.Texts.{bits, bytesFor}
+use Rattle.modes.specs.Questions.{ask}
+use Rattle.modes.specs.Sessions.{fedText, written}
+use Rattle.padding.specs.declared.strip.Unpadded.{Unpadded}
+use Rattle.padding.specs.Padding.{zerosFor, padded, paddedLength, padQuestions, padNumber, upToLastOne, unpaddedLength, holdsOne, unpadNumber, UnpaddedBy}
+use Rattle.padding.specs.Promises.{PaddedWhole, UnpadsPadded, PadAccepts, UnpadAfterPad}
+use Rattle.padding.proofs.NumberLaws.{taken, room, whole-blocks}
+use Rattle.padding.proofs.PadLaws.{length-padded, padded-whole, padded-limit, length-fed, written-fed, written-there}
+use Rattle.padding.proofs.OneLaws.{last-one, holds-one}
+use Rattle.padding.proofs.AnswerLaws.{pad-taken, number-0}
+
+pub padded-texts-whole : PaddedWhole
+unfolding PaddedWhole paddedLength zerosFor
+padded-texts-whole x =
+    let e = length-padded x in
+    record { multiple = rw e (padded-whole (length x)); longer = rw e (omega arith); at-most = rw e (omega arith); fewest = λ z h. omega arith }
+
+-- the last 1 of a padded text is the one behind the text
+padded-one : (x : List Bool) → upToLastOne (padded x) (length (padded x)) ≡ suc (length x)
+unfolding padded paddedLength
+padded-one x = rw length-padded (last-one x (zerosFor (length x)))
+
+pub unpads-padded : UnpadsPadded
+unfolding UnpadsPadded unpaddedLength
+unpads-padded x = rw padded-one
+
+holds-padded : (x : List Bool) → holdsOne (padded x) ≡ true
+holds-padded x = rw (holds-one, padded-one)
+
+pub pad-accepts : PadAccepts
+unfolding PadAccepts padNumber padQuestions ask
+pad-accepts input count out place r after by there limit fits =
+    by .answer
+    ∙ rw (
+      taken 524287 (length input) count limit (omega arith),
+      room (length out) place (bytesFor (paddedLength count)) (omega arith) (omega arith),
+    )
+
+-- unpad, handed a padded text
+module _ (s : List ℕ) (x : List Bool) (handed : fedText s (length (padded x)) ≡ padded x) (there : length (padded x) ≤ 8 * length s) (limit : length x ≤ 524287) where
+  unpad-number : 0 ≡ unpadNumber s (length (padded x))
+  unfolding PaddedWhole
+  unpad-number =
+      let w = padded-texts-whole x in
+      number-0 s (length (padded x)) (taken 524288 (length s) (length (padded x)) (rw length-padded (padded-limit (length x) limit)) (omega arith))
+      (whole-blocks (length (padded x)) (omega arith) (w .multiple)) (rw handed (holds-padded x))
+
+  unpadded-text : (u : Unpadded) → UnpaddedBy s (length (padded x)) u → (u .number ≡ 0) × (u .bits ≡ length x)
+  unfolding UnpadsPadded
+  unpadded-text u by =
+      let e : eqb (unpadNumber s (length (padded x))) 0 ≡ true = eq-eqb _ 0 (sym unpad-number) in
+      (by .answer ∙ sym unpad-number, by .size ∙ rw (e, handed, unpads-padded x))
+
+pub unpad-after-pad : UnpadAfterPad
+unfolding UnpadAfterPad
+unpad-after-pad input count out place r after u by accepted unpadded =
+    let zero : padNumber (length input) count (length out) place ≡ 0 = sym (by .answer) ∙ accepted in
+    let e : eqb (padNumber (length input) count (length out) place) 0 ≡ true = eq-eqb _ 0 zero in
+    let g = pad-taken (length input) count (length out) place zero in
+    let x = fedText input count in
+    let n : length x ≡ count = length-fed input count (g .there) in
+    let size : r .bits ≡ length (padded x) = rw e at (by .size) in
+    let output : after ≡ written out place (padded x) = rw e at (by .output) in
+    let room : bytesFor (length (padded x)) ≤ length out - place = rw (length-padded x, n) (g .room) in
+    let handed = written-fed out place (padded x) (g .inside) room in
+    let there = written-there out place (padded x) (g .inside) room in
+    let answer = unpadded-text (drop place (written out place (padded x))) x handed there (omega arith) u (rw (size, output) at unpadded) in
+    (answer .0, answer .1 ∙ n)

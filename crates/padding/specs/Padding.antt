@@ -1,0 +1,70 @@
+-- Document 01, "Padding, one block, comparison", and questions 6, 7, 8 and 10 for pad and unpad: the number, the length in bits
+-- and every byte of the output, for all arguments.
+use Prim.Native.Nat.{ℕ, zero, suc, pred, _+_, _-_, _%_}
+use mathlib.Core.Path.{_≡_}
+use mathlib.Core.Bool.{Bool, true, false, cond}
+use mathlib.Core.List.{List, [], _∷_, _++_}
+use lib.Dec.{eqb, leb}
+use lib.ListN.{length, getD, replicate}
+use Rattle.bits.specs.Texts.{bytesFor}
+use Rattle.rules.specs.Lengths.{both}
+use Rattle.modes.specs.Questions.{Question, ask, bitsOk, roomOk, maxBits}
+use Rattle.modes.specs.Sessions.{fedText, written}
+use Rattle.padding.specs.declared.append.Padded.{Padded}
+use Rattle.padding.specs.declared.strip.Unpadded.{Unpadded}
+
+-- ---- pad
+
+-- The 0 bits behind the 1 bit of a text of n bits: the fewest that reach a multiple of 128.
+unfoldable pub zerosFor : ℕ → ℕ
+zerosFor n = 127 - n % 128
+
+unfoldable pub padded : List Bool → List Bool
+padded x = x ++ true ∷ replicate (zerosFor (length x)) false
+
+unfoldable pub paddedLength : ℕ → ℕ
+paddedLength n = n + suc (zerosFor n)
+
+unfoldable pub padQuestions : ℕ → ℕ → ℕ → ℕ → List Question
+padQuestions bytes count size place =
+    record { yes = bitsOk 524287 bytes count; number = 6 } ∷ record { yes = roomOk size place (bytesFor (paddedLength count)); number = 8 } ∷ []
+
+unfoldable pub padNumber : ℕ → ℕ → ℕ → ℕ → ℕ
+padNumber bytes count size place = ask (padQuestions bytes count size place)
+
+pub record PaddedBy (input : List ℕ) (count : ℕ) (out : List ℕ) (place : ℕ) (r : Padded) (after : List ℕ) : Type 0 where
+  pub answer : r .number ≡ padNumber (length input) count (length out) place
+  pub size : r .bits ≡ cond (eqb (padNumber (length input) count (length out) place) 0) (length (padded (fedText input count))) 0
+  pub output : after ≡ cond (eqb (padNumber (length input) count (length out) place) 0) (written out place (padded (fedText input count))) out
+
+-- ---- unpad
+
+-- From the end of the first k bits of a text, 0 bits are passed up to the first 1 bit: how many bits stand up to that 1, itself
+-- included. 0 where all are 0.
+unfoldable pub upToLastOne : List Bool → ℕ → ℕ
+upToLastOne x zero = 0
+upToLastOne x (suc k) = let rest = upToLastOne x k in cond (getD x k false) (suc k) rest
+
+-- The bits before that 1.
+unfoldable pub unpaddedLength : List Bool → ℕ
+unpaddedLength x = pred (upToLastOne x (length x))
+
+-- Question 7, for unpad: a positive multiple of 128?
+unfoldable pub wholeBlocks : ℕ → Bool
+wholeBlocks count = both (leb 1 count) (eqb (count % 128) 0)
+
+-- Question 10: does the padded text hold a 1 bit?
+unfoldable pub holdsOne : List Bool → Bool
+holdsOne [] = false
+holdsOne (b ∷ x) = cond b true (holdsOne x)
+
+unfoldable pub unpadQuestions : ℕ → ℕ → List Bool → List Question
+unpadQuestions bytes count x =
+    record { yes = bitsOk maxBits bytes count; number = 6 } ∷ record { yes = wholeBlocks count; number = 7 } ∷ record { yes = holdsOne x; number = 10 } ∷ []
+
+unfoldable pub unpadNumber : List ℕ → ℕ → ℕ
+unpadNumber input count = ask (unpadQuestions (length input) count (fedText input count))
+
+pub record UnpaddedBy (input : List ℕ) (count : ℕ) (r : Unpadded) : Type 0 where
+  pub answer : r .number ≡ unpadNumber input count
+  pub size : r .bits ≡ cond (eqb (unpadNumber input count) 0) (unpaddedLength (fedText input count)) 0
