@@ -1,0 +1,6 @@
+-- Laws about the definitions of specs/, a file to a subject.
+pub mod RangeLaws
+pub mod ScanLaws
+pub mod WordLaws
+pub mod DigitLaws
+pub mod LineLaws

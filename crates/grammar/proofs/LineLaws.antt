@@ -1,0 +1,75 @@
+-- A line or a word that was found, and what a line of digits then is. Assumes nothing.
+use mathlib.Core.Path.{_≡_, refl, sym, ap, subst, _∙_}
+use mathlib.Core.Bool.{Bool, _&&_}
+use mathlib.Core.List.{List}
+use mathlib.Core.Option.{Option, none, some}
+use Prim.Native.Nat.{ℕ, _+_, _-_, _%_, _≤_, _<_}
+use native.Mathlib.Nat.{le-of-lt, le-of-eq, add-assoc}
+use native.Mathlib.Omega.{arith}
+use mathlib.Core.Bool.{true, false}
+use borrow.Author.Tests.{lt-ltb, le-ltb, eq-eqb, ne-eqb}
+use lib.Dec.{leb, eqb}
+use lib.ListN.{length, take, drop, length-drop}
+use lib.Seq.{length-take-le, take-all, drop-drop}
+use Rattle.grammar.specs.Texts.{given, upTo, Cut, cut, all, isHex}
+use Rattle.grammar.specs.declared.form.Digits.{Digits}
+use Rattle.grammar.specs.Grammar.{HexLine, hexLine}
+use Rattle.grammar.specs.Answers.{bytesAt, lineIn, LineFits, LineRead}
+
+-- a part that is lent from a place to the end
+pub part-rest : (s : List ℕ) (a : ℕ) → take (length s - a) (drop a s) ≡ drop a s
+part-rest s a = take-all (length s - a) (drop a s) (le-of-eq (length-drop a s))
+
+module _ (stop : ℕ) (s : List ℕ) (len : ℕ) (e : len ≡ upTo stop s) where
+  pub cut-none : length s ≤ len → cut stop s ≡ none
+  unfolding cut
+  cut-none h = rw (le-ltb (upTo stop s) (length s) (rw e at h))
+
+  pub cut-some : len < length s → cut stop s ≡ some (record { before = take len s; behind = drop (len + 1) s })
+  unfolding cut
+  cut-some h = rw (e, lt-ltb (upTo stop s) (length s) (rw e at h))
+
+-- ---- a line of digits, `len` bytes from `start` on: `rest` is the part that was searched
+
+abbrev rest : List ℕ → ℕ → List ℕ
+rest s start = take (length s - start) (drop start s)
+
+module _ (limit : ℕ) (s : List ℕ) (start len : ℕ) (e : len ≡ upTo 10 (rest s start)) where
+  found : len ≡ upTo 10 (drop start s)
+  found = rw part-rest at e
+
+  pub no-line : length (rest s start) ≤ len → hexLine limit (drop start s) ≡ none
+  unfolding hexLine
+  no-line h = rw (cut-none 10 (drop start s) len found (rw part-rest at h))
+
+  pub hexLine-is : len < length (rest s start)
+      → hexLine limit (drop start s)
+      ≡ given (leb len limit && eqb (len % 2) 0 && all isHex (take len (drop start s)))
+      (record { bytes = bytesAt s start len; behind = drop (start + len + 1) s })
+  unfolding hexLine
+  hexLine-is h =
+      let inside : len < length (drop start s) = rw part-rest at h in
+      rw (cut-some 10 (drop start s) len found inside, length-take-le len (drop start s) (le-of-lt inside), drop-drop, add-assoc)
+
+  pub line-inside : len < length (rest s start) → start + len < length s
+  line-inside h = omega (arith, simp (part-rest, length-drop) at h)
+
+-- ---- what the answers tell
+
+module _ {limit : ℕ} {s : List ℕ} {start : ℕ} {r : Digits} (h : LineRead limit s start r) where
+  pub line-read : {len next : ℕ} → r ≡ Digits.Line len next → hexLine limit (drop start s) ≡ some (record { bytes = bytesAt s start len; behind = drop next s })
+  line-read e = sym (h .line) ∙ ap (lineIn s start) e
+
+  pub line-fits : {len next : ℕ} → r ≡ Digits.Line len next → LineFits limit s start (Digits.Line len next)
+  line-fits e = subst (LineFits limit s start) e (h .fits)
+
+  pub line-bad : r ≡ Digits.Bad → hexLine limit (drop start s) ≡ none
+  line-bad e = sym (h .line) ∙ ap (lineIn s start) e
+
+-- ---- the place behind the last line
+
+pub nothing : (s : List ℕ) {next : ℕ} → next ≡ length s → eqb (length (drop next s)) 0 ≡ true
+nothing s {next} e = eq-eqb (length (drop next s)) 0 (simp length-drop (omega arith))
+
+pub something : (s : List ℕ) {next : ℕ} → next ≤ length s → (next ≡ length s → ⊥) → eqb (length (drop next s)) 0 ≡ false
+something s {next} h e = ne-eqb (length (drop next s)) 0 (λ z. e (omega (arith, simp length-drop at z)))

@@ -1,0 +1,102 @@
+-- `grammar::hex::encode` meets its contract. The loop's invariant: the digits of i bytes are written, and no other byte is
+-- changed. Assumes nothing.
+use mathlib.Core.Path.{_≡_, refl, sym, _∙_}
+use Prim.Native.Nat.{_*_, _≤_, _-_}
+use native.Mathlib.Omega.{arith}
+use borrow.Author.Needs.{needs}
+use lib.Seq.{paste-zero, paste}
+use lib.ListN.{length, length-set}
+use Rattle.grammar.specs.Texts.{hexText}
+use Rattle.grammar.proofs.DigitLaws.{length-hexText, high-digit, low-digit, pasted-pair}
+use Rattle.grammar.proofs.hex.encode.Statement.{statement}
+use Rattle.grammar.proofs.hex.encode.Tie as tie
+
+abbrev Inv-loop : tie.InvT-loop
+Inv-loop bytes out₀ at i₀ out i = (i ≤ length bytes) × (out ≡ paste out₀ at (hexText bytes) (i * 2)) × (length out ≡ length out₀)
+
+abbrev μ-loop : tie.MeasureT-loop
+μ-loop bytes out₀ at i₀ out i = length bytes - i
+
+loop-holds : tie.Need-loop-holds Inv-loop μ-loop
+loop-holds c = let a = c .before .before .args in
+    (search needs, paste-zero (a .out .now) (a .at) (hexText (a .bytes .now)), refl)
+
+shared-slice-read-b : tie.Need-shared-slice-read-b Inv-loop μ-loop
+shared-slice-read-b c = omega arith
+
+digit-requires : tie.Need-digit-requires Inv-loop μ-loop
+digit-requires c κs = omega (arith, c .shared-slice-known2 .given (c .before .before .loop .i))
+
+mul-out : tie.Need-mul-out Inv-loop μ-loop
+mul-out c = omega arith
+
+add-out : tie.Need-add-out Inv-loop μ-loop
+add-out c = omega arith
+
+slice-write-out : tie.Need-slice-write-out Inv-loop μ-loop
+slice-write-out c = omega arith
+
+digit-requires-2 : tie.Need-digit-requires-2 Inv-loop μ-loop
+digit-requires-2 c κs = omega arith
+
+mul-out-2 : tie.Need-mul-out-2 Inv-loop μ-loop
+mul-out-2 c = omega arith
+
+add-out-2 : tie.Need-add-out-2 Inv-loop μ-loop
+add-out-2 c = omega arith
+
+add-out-3 : tie.Need-add-out-3 Inv-loop μ-loop
+add-out-3 c = omega arith
+
+slice-write-out-2 : tie.Need-slice-write-out-2 Inv-loop μ-loop
+slice-write-out-2 c = simp length-set (omega arith)
+
+add-i : tie.Need-add-i Inv-loop μ-loop
+add-i c = omega arith
+
+loop-less : tie.Need-loop-less Inv-loop μ-loop
+loop-less c = omega arith
+
+loop-again : tie.Need-loop-again Inv-loop μ-loop
+loop-again c = let at-loop = c .before .before .before .before in
+    let a = at-loop .before .before .before .args in
+    let bytes = a .bytes .now in
+    let i = at-loop .loop .i in
+    let high = c .before .digit .ensures ∙ sym (high-digit bytes i (omega arith)) in
+    let low = c .digit2 .ensures ∙ sym (low-digit bytes i (omega arith)) in
+    let room = length-hexText bytes in (
+      omega arith,
+      pasted-pair (a .out .now) (a .at) (hexText bytes) i (at-loop .loop .inv .1) high low (omega arith) (omega arith),
+      simp length-set (omega arith),
+    )
+
+same-length : tie.Need-same-length Inv-loop μ-loop
+same-length c = omega arith
+
+returns : tie.Need-returns Inv-loop μ-loop
+returns c = let a = c .before .before .before .before .args in
+    let e : c .before .loop .i ≡ length (a .bytes .now) = omega arith in
+    rw e at (c .before .loop .inv .1)
+
+pub encode-spec : {M : Type 1} → statement M
+encode-spec =
+    tie.close
+    (tie.spec
+    Inv-loop
+    μ-loop
+    loop-holds
+    shared-slice-read-b
+    digit-requires
+    mul-out
+    add-out
+    slice-write-out
+    digit-requires-2
+    mul-out-2
+    add-out-2
+    add-out-3
+    slice-write-out-2
+    add-i
+    loop-less
+    loop-again
+    same-length
+    returns)

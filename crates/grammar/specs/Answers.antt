@@ -1,0 +1,84 @@
+-- What the answers of the line parser stand for: each is an enum, and `Bad` is the text that is not of the form.
+use Prim.Native.Nat.{ℕ, _+_, _≤_, _<_}
+use mathlib.Core.Path.{_≡_}
+use mathlib.Core.List.{List}
+use mathlib.Core.Option.{Option, none, some}
+use lib.ListN.{length, take, drop}
+use Rattle.rules.specs.declared.Mode.{Mode}
+use Rattle.rules.specs.declared.Direction.{Direction}
+use Rattle.grammar.specs.declared.header.ModeWord.{ModeWord}
+use Rattle.grammar.specs.declared.header.DirectionWord.{DirectionWord}
+use Rattle.grammar.specs.declared.header.Decimal.{Decimal}
+use Rattle.grammar.specs.declared.header.Header.{Header}
+use Rattle.grammar.specs.declared.form.Digits.{Digits}
+use Rattle.grammar.specs.declared.form.Form.{Form}
+use Rattle.grammar.specs.Texts.{hexBytes}
+use Rattle.grammar.specs.Grammar.{First, HexLine, hexLine, Request}
+
+-- ---- of the first line
+
+abbrev pub modeIn : ModeWord → Option Mode
+modeIn (ModeWord.Named mode) = some mode
+modeIn ModeWord.Bad = none
+
+abbrev pub directionIn : DirectionWord → Option Direction
+directionIn (DirectionWord.Named direction) = some direction
+directionIn DirectionWord.Bad = none
+
+abbrev pub numberIn : Decimal → Option ℕ
+numberIn (Decimal.Number n) = some n
+numberIn Decimal.Bad = none
+
+abbrev pub firstIn : Header → Option First
+firstIn (Header.Line mode n direction) = some (record { mode = mode; n = n; direction = direction })
+firstIn Header.Bad = none
+
+-- ---- of a line of digits that starts at a place of s
+
+-- The bytes of so many digits from a place on.
+abbrev pub bytesAt : List ℕ → ℕ → ℕ → List ℕ
+bytesAt s start len = hexBytes (take len (drop start s))
+
+-- `next` is the place behind its line feed.
+abbrev pub lineIn : List ℕ → ℕ → Digits → Option HexLine
+lineIn s start (Digits.Line len next) = some (record { bytes = bytesAt s start len; behind = drop next s })
+lineIn s start Digits.Bad = none
+
+abbrev pub LineFits : ℕ → List ℕ → ℕ → Digits → Type 0
+LineFits limit s start (Digits.Line len next) = (start + len ≤ length s) × (len ≤ limit) × (next ≤ length s)
+LineFits limit s start Digits.Bad = Unit
+
+pub record LineRead (limit : ℕ) (s : List ℕ) (start : ℕ) (r : Digits) : Type 0 where
+  pub line : lineIn s start r ≡ hexLine limit (drop start s)
+  pub fits : LineFits limit s start r
+
+-- ---- of the four lines
+
+abbrev pub requestIn : List ℕ → Form → Option Request
+requestIn s (Form.Lines mode n direction key key-len iv iv-len message message-len) =
+    some
+    (record {
+      mode = mode;
+      n = n;
+      direction = direction;
+      key = bytesAt s key key-len;
+      iv = bytesAt s iv iv-len;
+      message = bytesAt s message message-len;
+    })
+requestIn s Form.Bad = none
+
+pub record Within (s : List ℕ) (key key-len iv iv-len message message-len : ℕ) : Type 0 where
+  pub key-inside : key + key-len ≤ length s
+  pub key-size : key-len ≤ 128
+  pub iv-inside : iv + iv-len ≤ length s
+  pub iv-size : iv-len ≤ 128
+  pub message-inside : message + message-len ≤ length s
+  pub message-size : message-len ≤ 8192
+
+abbrev pub FormFits : List ℕ → Form → Type 0
+FormFits s (Form.Lines mode n direction key key-len iv iv-len message message-len) = Within s key key-len iv iv-len message message-len
+FormFits s Form.Bad = Unit
+
+pub record FormRead (s : List ℕ) (value : Option Request) (r : Form) : Type 0 where
+  pub form : requestIn s r ≡ value
+  pub fits : FormFits s r
