@@ -1,0 +1,133 @@
+// OpenSSL's libcrypto, the second implementation: the few functions of evp.h and aes.h that are needed, declared by hand.
+use std::ffi::CString;
+use std::os::raw::{c_char, c_int, c_uchar};
+use std::ptr;
+
+#[repr(C)]
+struct Algorithm {
+    opaque: [u8; 0],
+}
+
+#[repr(C)]
+struct Context {
+    opaque: [u8; 0],
+}
+
+#[repr(C)]
+struct Engine {
+    opaque: [u8; 0],
+}
+
+extern "C" {
+    fn EVP_get_cipherbyname(name: *const c_char) -> *const Algorithm;
+    fn EVP_CIPHER_CTX_new() -> *mut Context;
+    fn EVP_CIPHER_CTX_free(context: *mut Context);
+    fn EVP_CIPHER_CTX_set_padding(context: *mut Context, padding: c_int) -> c_int;
+    fn EVP_CipherInit_ex(
+        context: *mut Context,
+        algorithm: *const Algorithm,
+        engine: *mut Engine,
+        key: *const c_uchar,
+        iv: *const c_uchar,
+        encrypt: c_int,
+    ) -> c_int;
+    fn EVP_CipherUpdate(
+        context: *mut Context,
+        out: *mut c_uchar,
+        out_length: *mut c_int,
+        input: *const c_uchar,
+        input_length: c_int,
+    ) -> c_int;
+    fn AES_set_encrypt_key(key: *const c_uchar, bits: c_int, schedule: *mut Schedule) -> c_int;
+}
+
+// AES_KEY of aes.h. On x86-64 the words lie in memory as FIPS 197 has their bytes.
+#[repr(C)]
+struct Schedule {
+    keys: [u8; 240],
+    rounds: c_int,
+}
+
+#[derive(Clone, Copy, PartialEq)]
+pub enum Direction {
+    Encrypt,
+    Decrypt,
+}
+
+// A cipher under a key in one of OpenSSL's modes, with no padding.
+pub struct Cipher {
+    context: *mut Context,
+}
+
+impl Cipher {
+    // `mode` is the end of OpenSSL's name: ecb, cbc, cfb1, cfb8, cfb, ofb or ctr. The IV is empty in ECB.
+    pub fn new(mode: &str, key: &[u8], iv: &[u8], direction: Direction) -> Cipher {
+        assert!(iv.len() == if mode == "ecb" { 0 } else { 16 });
+        let name = CString::new(format!("aes-{}-{}", 8 * key.len(), mode)).unwrap();
+        let encrypt = (direction == Direction::Encrypt) as c_int;
+        unsafe {
+            let algorithm = EVP_get_cipherbyname(name.as_ptr());
+            assert!(!algorithm.is_null(), "libcrypto has no {:?}", name);
+            let context = EVP_CIPHER_CTX_new();
+            assert!(!context.is_null());
+            let iv = if iv.is_empty() {
+                ptr::null()
+            } else {
+                iv.as_ptr()
+            };
+            let begun = EVP_CipherInit_ex(
+                context,
+                algorithm,
+                ptr::null_mut(),
+                key.as_ptr(),
+                iv,
+                encrypt,
+            );
+            assert!(begun == 1 && EVP_CIPHER_CTX_set_padding(context, 0) == 1);
+            Cipher { context }
+        }
+    }
+
+    // Puts the input through. Both slices are as long; in ECB and CBC they are whole blocks.
+    pub fn update(&mut self, input: &[u8], out: &mut [u8]) {
+        assert!(input.len() == out.len());
+        let mut written: c_int = 0;
+        let done = unsafe {
+            EVP_CipherUpdate(
+                self.context,
+                out.as_mut_ptr(),
+                &mut written,
+                input.as_ptr(),
+                input.len() as c_int,
+            )
+        };
+        assert!(
+            done == 1 && written as usize == input.len(),
+            "libcrypto wrote {written} bytes"
+        );
+    }
+}
+
+impl Drop for Cipher {
+    fn drop(&mut self) {
+        unsafe { EVP_CIPHER_CTX_free(self.context) }
+    }
+}
+
+// One block under a key.
+pub fn block(key: &[u8], direction: Direction, block: &[u8; 16]) -> [u8; 16] {
+    let mut out = [0; 16];
+    Cipher::new("ecb", key, &[], direction).update(block, &mut out);
+    out
+}
+
+// The rounds and the round keys of a key, with 0 behind the expanded ones.
+pub fn expand(key: &[u8]) -> (usize, [u8; 240]) {
+    let mut schedule = Schedule {
+        keys: [0; 240],
+        rounds: 0,
+    };
+    let done = unsafe { AES_set_encrypt_key(key.as_ptr(), 8 * key.len() as c_int, &mut schedule) };
+    assert!(done == 0);
+    (schedule.rounds as usize, schedule.keys)
+}
