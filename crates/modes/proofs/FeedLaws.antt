@@ -25,7 +25,7 @@ refused-unchanged s input count out place r after fed refused =
 
 module _ {s : Session} {input : List ℕ} {count : ℕ} {out : List ℕ} {place : ℕ} {r : Fed} {after : List ℕ}
     (fed : FedBy s input count out place r after) (accepted : r .number ≡ 0) where
-  asked : FeedTaken (s .mode) (s .rounds) (s .n) (s .closed) (s .units) (length input) count (length out) place
+  pub asked : FeedTaken (s .mode) (s .rounds) (s .n) (s .closed) (s .units) (length input) count (length out) place
   unfolding feedNumber
   asked = feed-taken (s .mode) (s .rounds) (s .n) (s .closed) (s .units) (length input) count (length out) place (sym (fed .answer) ∙ accepted)
 
@@ -48,7 +48,7 @@ module _ {s : Session} {input : List ℕ} {count : ℕ} {out : List ℕ} {place 
   pub accepted-session : r .session ≡ fedSession s (fedText input count)
   accepted-session = rw number-zero at (fed .session)
 
-  accepted-output : after ≡ written out place (sessionText s (fedText input count))
+  pub accepted-output : after ≡ written out place (sessionText s (fedText input count))
   accepted-output = rw number-zero at (fed .output)
 
   pub accepted-named : Arrays s → ExactlyTheNamed s input count out place after

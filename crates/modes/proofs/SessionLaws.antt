@@ -58,6 +58,32 @@ module _ {s : Session} (ready : Ready s) where
   pub some-bits : 0 < s .n
   some-bits = unit-bounds (s .mode) (s .n) (ready .unit) .0
 
+  -- whole units, then the rest
+  module _ (x y : List Bool) (units : length x % s .n ≡ 0) where
+    bits-of-units : length x ≡ unitsIn (s .n) (length x) * s .n
+    bits-of-units = whole-units (length x) some-bits units
+
+    rest-of-bits : length (x ++ y) % s .n ≡ length y % s .n
+    rest-of-bits = rw (length-append, bits-of-units) (mul-add-mod-self-right (unitsIn (s .n) (length x)) (s .n) (length y))
+
+    pub text-append : sessionText s (x ++ y) ≡ sessionText s x ++ sessionText (fedSession s x) y
+    unfolding sessionText fedSession sessionRegister
+    text-append =
+        worked-append (encBy s) (decBy s) (s .mode) (s .direction) (s .n) (s .register) x y (unitsIn (s .n) (length x)) bits-of-units some-bits
+
+    pub fed-append : fedSession s (x ++ y) ≡ fedSession (fedSession s x) y
+    unfolding fedSession sessionRegister
+    fed-append =
+        rw (
+          units-append (encBy s) (decBy s) (s .mode) (s .direction) (s .n) (s .register) x y (unitsIn (s .n) (length x)) bits-of-units some-bits,
+          register-second (encBy s) (decBy s) (s .mode) (s .direction) (s .n) (s .register) x y (unitsIn (s .n) (length x)) bits-of-units (unitsIn (s .n) (length y)),
+          ← add-assoc,
+          rest-of-bits,
+        )
+
+    pub whole-units-append : wholeUnits (s .mode) (s .n) (length (x ++ y)) ≡ wholeUnits (s .mode) (s .n) (length y)
+    whole-units-append = rw (length-append, bits-of-units) (whole-append (s .mode) (s .n) (unitsIn (s .n) (length x)) (length y))
+
   module _ (x : List Bool) (whole : wholeUnits (s .mode) (s .n) (length x) ≡ true) where
     text : Taken (s .mode) (s .n) x
     text = taken (s .mode) (s .n) x (ready .unit) whole
@@ -86,29 +112,3 @@ module _ {s : Session} (ready : Ready s) where
   pub fed-none : s .closed ≡ false → fedSession s [] ≡ s
   unfolding fedSession sessionRegister registerAt
   fed-none free = rw (units-none some-bits, zero-mod, add-zero, ← free)
-
-  -- whole units, then the rest
-  module _ (x y : List Bool) (units : length x % s .n ≡ 0) where
-    bits-of-units : length x ≡ unitsIn (s .n) (length x) * s .n
-    bits-of-units = whole-units (length x) some-bits units
-
-    rest-of-bits : length (x ++ y) % s .n ≡ length y % s .n
-    rest-of-bits = rw (length-append, bits-of-units) (mul-add-mod-self-right (unitsIn (s .n) (length x)) (s .n) (length y))
-
-    pub text-append : sessionText s (x ++ y) ≡ sessionText s x ++ sessionText (fedSession s x) y
-    unfolding sessionText fedSession sessionRegister
-    text-append =
-        worked-append (encBy s) (decBy s) (s .mode) (s .direction) (s .n) (s .register) x y (unitsIn (s .n) (length x)) bits-of-units some-bits
-
-    pub fed-append : fedSession s (x ++ y) ≡ fedSession (fedSession s x) y
-    unfolding fedSession sessionRegister
-    fed-append =
-        rw (
-          units-append (encBy s) (decBy s) (s .mode) (s .direction) (s .n) (s .register) x y (unitsIn (s .n) (length x)) bits-of-units some-bits,
-          register-second (encBy s) (decBy s) (s .mode) (s .direction) (s .n) (s .register) x y (unitsIn (s .n) (length x)) bits-of-units (unitsIn (s .n) (length y)),
-          ← add-assoc,
-          rest-of-bits,
-        )
-
-    pub whole-units-append : wholeUnits (s .mode) (s .n) (length (x ++ y)) ≡ wholeUnits (s .mode) (s .n) (length y)
-    whole-units-append = rw (length-append, bits-of-units) (whole-append (s .mode) (s .n) (unitsIn (s .n) (length x)) (length y))

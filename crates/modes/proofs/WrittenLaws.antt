@@ -22,7 +22,7 @@ module _ (out : List ℕ) (place : ℕ) (x : List Bool) (inside : place ≤ leng
   front = length-take-le place out inside
 
   -- from the place on
-  written-from : drop place (written out place x) ≡ pack x ++ drop (place + length (pack x)) out
+  pub written-from : drop place (written out place x) ≡ pack x ++ drop (place + length (pack x)) out
   unfolding written
   written-from = rw append-assoc (drop-at (take place out) (pack x ++ drop (place + length (pack x)) out) place front)
 

@@ -22,7 +22,7 @@ fn ecb(
     ensures { λ r. ⌜ Turned (Enc rounds (now (keys .entry))) (Dec rounds (now (keys .entry))) Mode.Ecb direction register unit 128 (r .out) (r .register) ⌝ }
 {
     let out = match direction {
-        Direction::Encrypt => aes::encrypt_block(rounds, keys, unit),
+        Direction::Encrypt => columns::encrypt_block(rounds, keys, unit),
         Direction::Decrypt => aes::decrypt_block(rounds, keys, unit),
     };
     Step { out, register }
@@ -39,7 +39,7 @@ fn cbc(
 {
     match direction {
         Direction::Encrypt => {
-            let cipher = aes::encrypt_block(rounds, keys, bits::xor_block(unit, register));
+            let cipher = columns::encrypt_block(rounds, keys, bits::xor_block(unit, register));
             Step {
                 out: cipher,
                 register: cipher,
@@ -66,7 +66,7 @@ fn cfb(
     requires { ⌜ size ≤ 128 ⌝ }
     ensures { λ r. ⌜ Turned (Enc rounds (now (keys .entry))) (Dec rounds (now (keys .entry))) Mode.Cfb direction register unit size (r .out) (r .register) ⌝ }
 {
-    let out = bits::xor_block(unit, aes::encrypt_block(rounds, keys, register));
+    let out = bits::xor_block(unit, columns::encrypt_block(rounds, keys, register));
     match direction {
         Direction::Encrypt => {
             let next = bits::shift_in(register, out, size);
@@ -96,7 +96,7 @@ fn ofb(
     requires { ⌜ size ≤ 128 ⌝ }
     ensures { λ r. ⌜ Turned (Enc rounds (now (keys .entry))) (Dec rounds (now (keys .entry))) Mode.Ofb direction register unit size (r .out) (r .register) ⌝ }
 {
-    let next = aes::encrypt_block(rounds, keys, register);
+    let next = columns::encrypt_block(rounds, keys, register);
     let out = bits::xor_block(unit, next);
     Step {
         out,
@@ -115,7 +115,7 @@ fn ctr(
     requires { ⌜ size ≤ 128 ⌝ }
     ensures { λ r. ⌜ Turned (Enc rounds (now (keys .entry))) (Dec rounds (now (keys .entry))) Mode.Ctr direction register unit size (r .out) (r .register) ⌝ }
 {
-    let out = bits::xor_block(unit, aes::encrypt_block(rounds, keys, register));
+    let out = bits::xor_block(unit, columns::encrypt_block(rounds, keys, register));
     let next = bits::increment_block(register);
     Step {
         out,
