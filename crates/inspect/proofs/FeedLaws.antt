@@ -36,7 +36,7 @@ module _ (text : List ℕ) (h : Bytes text) where
       let e : j * 128 ≡ j * 16 * 8 = omega arith in
       rw (e, drop-bits) (take-bits 16 (drop (j * 16) text))
 
-  packed-block : (j : ℕ) → pack (unitAt 128 (bits text) j) ≡ blockAt text j
+  pub packed-block : (j : ℕ) → pack (unitAt 128 (bits text) j) ≡ blockAt text j
   unfolding blockAt
   packed-block j = ap pack (unit-block j) ∙ pack-bits (blockAt text j) (take-bytes 16 (drop-bytes (j * 16) h))
 

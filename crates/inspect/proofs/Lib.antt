@@ -3,5 +3,6 @@ pub mod NumberLaws
 pub mod NeighbourLaws
 pub mod AnswerLaws
 pub mod FeedLaws
+pub mod CallLaws
 pub mod SameLaws
 pub mod AlikeLaws

@@ -64,3 +64,13 @@ module _ (key iv text : List ℕ) (j size place : ℕ) where
       pub number-0 : roomOk size place 16 ≡ true → 0 ≡ singleNumber key iv text j size place
       unfolding singleNumber singleQuestions ask
       number-0 a = rw (a1, n .iv-yes, n .block-yes, a)
+
+  -- at 0, block j is there and so is the room
+  pub single-taken : singleNumber key iv text j size place ≡ 0 → (blockOk (length text) j ≡ true) × (roomOk size place 16 ≡ true)
+  unfolding singleNumber singleQuestions
+  single-taken e1 =
+      let (q1, e2) = first-yes _ _ (omega arith) e1 in
+      let (q2, e11) = first-yes _ _ (omega arith) e2 in
+      let (q11, e8) = first-yes _ _ (omega arith) e11 in
+      let (q8, e0) = first-yes _ _ (omega arith) e8 in
+      (q11, q8)

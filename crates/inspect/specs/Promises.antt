@@ -1,10 +1,10 @@
 -- What is promised of a single CBC block and of sessions that are alike.
-use Prim.Native.Nat.{ℕ}
+use Prim.Native.Nat.{ℕ, _*_}
 use mathlib.Core.Path.{_≡_}
 use mathlib.Core.Logic.{_↔_}
 use mathlib.Core.Bool.{true}
 use mathlib.Core.List.{List}
-use lib.ListN.{length}
+use lib.ListN.{length, take, drop}
 use Rattle.bits.specs.Texts.{bits}
 use Rattle.bits.specs.Blocks.{Bytes}
 use Rattle.rules.specs.declared.Mode.the-variants.{Cbc}
@@ -12,8 +12,9 @@ use Rattle.rules.specs.declared.Direction.the-variants.{Decrypt}
 use Rattle.rules.specs.Rules.{unitAt}
 use Rattle.modes.specs.declared.session.Session.{Session}
 use Rattle.modes.specs.declared.session.Opened.{Opened}
-use Rattle.modes.specs.Sessions.{OpenedBy, sessionText}
-use Rattle.inspect.specs.Single.{blockOk, plainBlock}
+use Rattle.modes.specs.declared.session.Fed.{Fed}
+use Rattle.modes.specs.Sessions.{OpenedBy, FedBy, sessionText}
+use Rattle.inspect.specs.Single.{blockAt, blockOk, plainBlock, SingleBy}
 use Rattle.inspect.specs.Alike.{Alike, alikeTo}
 
 -- For every j the single block is block j of what a whole decrypting CBC feed of the ciphertext gives.
@@ -21,6 +22,14 @@ unfoldable pub BlockOfTheFeed : Type 0
 BlockOfTheFeed =
     (key iv text : List ℕ) (j : ℕ) (r : Opened) → Bytes key → Bytes iv → Bytes text → OpenedBy Cbc Decrypt 128 key iv r → r .number ≡ 0
     → blockOk (length text) j ≡ true → bits (plainBlock key iv text j) ≡ unitAt 128 (sessionText (r .session) (bits text)) j
+
+-- By the calls: what an accepted single block writes is block j of what an accepted feed of the whole ciphertext wrote.
+unfoldable pub BlockByTheCalls : Type 0
+BlockByTheCalls =
+    (key iv text : List ℕ) (j : ℕ) (r : Opened) → Bytes key → Bytes iv → Bytes text → OpenedBy Cbc Decrypt 128 key iv r → r .number ≡ 0
+    → (out : List ℕ) (place : ℕ) (fed : Fed) (after : List ℕ) → FedBy (r .session) text (length text * 8) out place fed after → fed .number ≡ 0
+    → (out′ : List ℕ) (place′ number : ℕ) (after′ : List ℕ) → SingleBy key iv text j out′ place′ number after′ → number ≡ 0
+    → take 16 (drop place′ after′) ≡ blockAt (drop place after) j
 
 -- What a session's type says of its arrays, and a contract's lists do not: 240 round key bytes and 16 register bytes.
 pub record Sizes (s : Session) : Type 0 where

@@ -1,6 +1,5 @@
 // Runs open and feed on the edges that document 01 names, and prints what they gave. The file `stdout` has what document 01
 // says; expected.py, which shares nothing with the crates, writes it.
-mod print;
 
 use modes::Session;
 use rules::Direction;
@@ -30,26 +29,26 @@ const IV: [u8; 16] = [0, 1, 2, 3, 4, 5, 6, 7, 8, 9, 10, 11, 12, 13, 14, 15];
 // The number of an opening.
 fn open(name: &[u8], mode: Mode, n: usize, key: &[u8], iv: &[u8]) {
     let opened = Session::open(mode, Direction::Decrypt, n, key, iv);
-    print::label(name);
-    print::number(opened.number as u64);
-    print::end();
+    show::label(name);
+    show::number(opened.number as u64);
+    show::end();
 }
 
 // A feed into 40 bytes of ee: its number, the output, and the session's R, units and closing.
 fn feed(name: &[u8], session: Session, input: &[u8], bits: usize, place: usize) -> Session {
     let mut out = [0xeeu8; 40];
     let fed = session.feed(input, bits, &mut out, place);
-    print::label(name);
-    print::number(fed.number as u64);
-    print::bytes(&out);
+    show::label(name);
+    show::number(fed.number as u64);
+    show::bytes(&out);
     let next = fed.session;
     let register = next.register;
-    print::block(register);
-    print::number(next.units as u64);
+    show::block(register);
+    show::number(next.units as u64);
     if next.closed {
-        print::label(b" closed");
+        show::label(b" closed");
     }
-    print::end();
+    show::end();
     next
 }
 
@@ -222,14 +221,14 @@ fn largest() {
     let mut out = [0u8; 65537];
     let ctr = opened(Mode::Ctr, Direction::Encrypt, 128, &iv);
     let most = ctr.feed(&input, 524288, &mut out, 0);
-    print::label(b"524288 bits");
-    print::number(most.number as u64);
-    print::bytes(&out[65520..65537]);
-    print::end();
+    show::label(b"524288 bits");
+    show::number(most.number as u64);
+    show::bytes(&out[65520..65537]);
+    show::end();
     let more = ctr.feed(&input, 524289, &mut out, 0);
-    print::label(b"524289 bits");
-    print::number(more.number as u64);
-    print::end();
+    show::label(b"524289 bits");
+    show::number(more.number as u64);
+    show::end();
 }
 
 fn main() {

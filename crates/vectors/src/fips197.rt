@@ -1,15 +1,15 @@
 // FIPS 197: the key expansions of appendix A, the cipher examples of appendices B and C in both directions, and keys of lengths that
 // are refused.
-use crate::print;
 
 // A line for each word of the schedule.
 fn words(keys: [u8; 240]) {
     let mut i: usize = 0;
     while i < 60 {
         let at = 4 * i;
-        print::label(b"word");
-        print::number(i as u64);
-        print::bytes(&keys[at..at + 4]);
+        show::label(b"word");
+        show::number(i as u64);
+        show::bytes(&keys[at..at + 4]);
+        show::end();
         i += 1;
     }
 }
@@ -18,34 +18,38 @@ fn words(keys: [u8; 240]) {
 fn expansion(key: &[u8]) {
     let schedule = aes::expand(key);
     let keys = schedule.keys;
-    print::label(b"expand");
-    print::number(schedule.number as u64);
-    print::number(schedule.rounds as u64);
-    print::bytes(&keys);
+    show::label(b"expand");
+    show::number(schedule.number as u64);
+    show::number(schedule.rounds as u64);
+    show::bytes(&keys);
+    show::end();
 }
 
 fn answered(name: &[u8], answer: aes::Answer) {
     let block = answer.block;
-    print::label(name);
-    print::number(answer.number as u64);
-    print::bytes(&block);
+    show::label(name);
+    show::number(answer.number as u64);
+    show::bytes(&block);
+    show::end();
 }
 
 fn appendix_a(name: &[u8], key: &[u8]) {
-    print::label(name);
-    print::bytes(key);
+    show::label(name);
+    show::bytes(key);
+    show::end();
     let schedule = aes::expand(key);
     let keys = schedule.keys;
-    print::label(b"rounds");
-    print::number(schedule.number as u64);
-    print::number(schedule.rounds as u64);
-    print::end();
+    show::label(b"rounds");
+    show::number(schedule.number as u64);
+    show::number(schedule.rounds as u64);
+    show::end();
     words(keys);
 }
 
 fn both(name: &[u8], key: &[u8], plain: [u8; 16]) {
-    print::label(name);
-    print::bytes(key);
+    show::label(name);
+    show::bytes(key);
+    show::end();
     let encrypted = aes::encrypt(key, plain);
     let cipher = encrypted.block;
     answered(b"encrypt", encrypted);
@@ -54,9 +58,9 @@ fn both(name: &[u8], key: &[u8], plain: [u8; 16]) {
 
 // A key of a length that is refused.
 fn refused(key: &[u8]) {
-    print::label(b"refused");
-    print::number(key.len() as u64);
-    print::end();
+    show::label(b"refused");
+    show::number(key.len() as u64);
+    show::end();
     expansion(key);
     answered(b"encrypt", aes::encrypt(key, [9; 16]));
     answered(b"decrypt", aes::decrypt(key, [9; 16]));

@@ -45,6 +45,9 @@ part-bytes-end c =
 bytes-requires : tie.Need-bytes-requires Inv-loop μ-loop
 bytes-requires c κs = search needs
 
+end-requires : tie.Need-end-requires Inv-loop μ-loop
+end-requires c κs = search needs
+
 add-i : tie.Need-add-i Inv-loop μ-loop
 add-i c = omega arith
 
@@ -73,6 +76,7 @@ words-spec =
     part-bytes-start
     part-bytes-end
     bytes-requires
+    end-requires
     add-i
     loop-less
     loop-again

@@ -1,4 +1,4 @@
-// A line: a label, numbers, bytes in hexadecimal, its end.
+// What the programs print: a line is a label, numbers, bytes in hexadecimal, its end.
 use libc::STDOUT_FILENO;
 
 pub fn label(text: &[u8]) {
@@ -19,10 +19,15 @@ pub fn bytes(b: &[u8]) {
     }
 }
 
-pub fn end() {
-    io::write_all(STDOUT_FILENO, b"\n");
+pub fn byte(b: u8) {
+    io::write_all(STDOUT_FILENO, b" ");
+    io::print_hex(STDOUT_FILENO, b as u64, 2);
 }
 
 pub fn block(b: [u8; 16]) {
     bytes(&b);
+}
+
+pub fn end() {
+    io::write_all(STDOUT_FILENO, b"\n");
 }

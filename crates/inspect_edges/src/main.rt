@@ -1,0 +1,11 @@
+// Runs pad, unpad, neighbour, decrypt_block and alike on the edges that document 01 names, and prints what they gave. The file
+// `stdout` has what document 01 says; expected.py, which shares nothing with the crates, writes it.
+mod blocks;
+mod pads;
+mod sessions;
+
+fn main() {
+    pads::run();
+    blocks::run();
+    sessions::run();
+}

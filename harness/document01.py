@@ -1,0 +1,217 @@
+# Document 01 in Python, for the files `stdout` of the programs that run calls at their edges. It shares nothing with the crates:
+# AES is polynomial arithmetic on integers, a text is a string of bits, a session is a dictionary.
+
+# FIPS 197
+
+def times(a, b):
+    p = 0
+    for i in range(8):
+        if b >> i & 1:
+            p ^= a << i
+    for i in range(14, 7, -1):
+        if p >> i & 1:
+            p ^= 0x11b << (i - 8)
+    return p
+
+
+TIMES = {k: [times(k, b) for b in range(256)] for k in (1, 2, 3, 9, 11, 13, 14)}
+
+
+def sub_byte(b):
+    inverse = next((x for x in range(256) if times(b, x) == 1), 0)
+    turned = [inverse << k | inverse >> (8 - k) for k in range(5)]
+    return (turned[0] ^ turned[1] ^ turned[2] ^ turned[3] ^ turned[4] ^ 0x63) & 0xff
+
+
+SBOX = [sub_byte(b) for b in range(256)]
+INVERSE = [SBOX.index(b) for b in range(256)]
+SCHEDULES = {}
+
+
+def schedule(key):
+    if key not in SCHEDULES:
+        nk = len(key) // 4
+        words = [list(key[4 * i:4 * i + 4]) for i in range(nk)]
+        power = 1
+        for i in range(nk, 4 * (nk + 7)):
+            w = words[-1]
+            if i % nk == 0:
+                w = [SBOX[x] for x in w[1:] + w[:1]]
+                w[0] ^= power
+                power = times(power, 2)
+            elif nk == 8 and i % 8 == 4:
+                w = [SBOX[x] for x in w]
+            words.append([a ^ b for a, b in zip(words[i - nk], w)])
+        flat = [x for w in words for x in w]
+        SCHEDULES[key] = [flat[i:i + 16] for i in range(0, len(flat), 16)]
+    return SCHEDULES[key]
+
+
+# byte 4c + r of a block stands in row r, column c
+def columns(block, row):
+    return [row_product(block[c:c + 4], row, r) for c in (0, 4, 8, 12) for r in range(4)]
+
+
+def row_product(column, row, r):
+    out = 0
+    for i in range(4):
+        out ^= TIMES[row[(i - r) % 4]][column[i]]
+    return out
+
+
+def add(a, b):
+    return [x ^ y for x, y in zip(a, b)]
+
+
+def encrypt(key, block):
+    keys = schedule(key)
+    s = add(block, keys[0])
+    for t in range(1, len(keys)):
+        s = [SBOX[s[(i + 4 * (i % 4)) % 16]] for i in range(16)]
+        if t < len(keys) - 1:
+            s = columns(s, (2, 3, 1, 1))
+        s = add(s, keys[t])
+    return bytes(s)
+
+
+def decrypt(key, block):
+    keys = schedule(key)
+    s = add(block, keys[-1])
+    for t in range(len(keys) - 2, -1, -1):
+        s = [INVERSE[s[(i - 4 * (i % 4)) % 16]] for i in range(16)]
+        s = add(s, keys[t])
+        if t > 0:
+            s = columns(s, (14, 11, 13, 9))
+    return bytes(s)
+
+
+# the modes
+
+def bits(data):
+    return ''.join(format(x, '08b') for x in data)
+
+
+def pack(text):
+    return bytes(int(text[i:i + 8].ljust(8, '0'), 2) for i in range(0, len(text), 8))
+
+
+def xor(a, b):
+    return ''.join('01'[p != q] for p, q in zip(a, b))
+
+
+def length_ok(mode, n):
+    return 1 <= n <= 128 if mode == 'CFB' else n == 128
+
+
+REFUSED = dict(mode='ECB', way='E', n=0, key=b'', r=bytes(16), units=0, closed=1)
+
+
+def opening(mode, way, n, key, iv):
+    if len(key) not in (16, 24, 32):
+        return 1, REFUSED
+    if len(iv) != (0 if mode == 'ECB' else 16):
+        return 2, REFUSED
+    if not length_ok(mode, n):
+        return 3, REFUSED
+    return 0, dict(mode=mode, way=way, n=n, key=key, r=iv or bytes(16), units=0, closed=0)
+
+
+# a unit of bits: what it becomes, and R after it
+def unit(s, r, u):
+    mode, key, encrypting = s['mode'], s['key'], s['way'] == 'E'
+    if mode == 'ECB':
+        return bits((encrypt if encrypting else decrypt)(key, pack(u))), r
+    if mode == 'CBC':
+        if encrypting:
+            c = encrypt(key, pack(xor(u, bits(r))))
+            return bits(c), c
+        return xor(bits(decrypt(key, pack(u))), bits(r)), pack(u)
+    if mode == 'OFB':
+        r = encrypt(key, r)
+        return xor(u, bits(r)), r
+    out = xor(u, bits(encrypt(key, r)))
+    if mode == 'CTR':
+        return out, ((int.from_bytes(r, 'big') + 1) % 2 ** 128).to_bytes(16, 'big')
+    return out, pack((bits(r) + (out if encrypting else u))[-128:])
+
+
+def room(count, size, place):
+    return place <= size and (count + 7) // 8 <= size - place
+
+
+def written(out, place, text):
+    return out[:place] + pack(text) + out[place + (len(text) + 7) // 8:]
+
+
+def feed(s, data, count, out, place):
+    n = s['n']
+    if len(s['key']) not in (16, 24, 32) or not length_ok(s['mode'], n):
+        return 4, s, out
+    if s['closed']:
+        return 5, s, out
+    if count > min(8 * len(data), 524288):
+        return 6, s, out
+    if s['mode'] in ('ECB', 'CBC', 'CFB') and count % n:
+        return 7, s, out
+    if not room(count, len(out), place):
+        return 8, s, out
+    new = (count + n - 1) // n
+    if s['units'] + new > 4294967295:
+        return 9, s, out
+    text, r, parts = bits(data)[:count], s['r'], []
+    for t in range(new):
+        part, r = unit(s, r, text[t * n:(t + 1) * n])
+        parts.append(part)
+    return 0, dict(s, r=r, units=s['units'] + new, closed=int(count % n > 0)), written(out, place, ''.join(parts))
+
+
+# padding, one block
+
+def pad(data, count, out, place):
+    if count > min(8 * len(data), 524287):
+        return 6, 0, out
+    text = bits(data)[:count] + '1'
+    text += '0' * (-len(text) % 128)
+    if not room(len(text), len(out), place):
+        return 8, 0, out
+    return 0, len(text), written(out, place, text)
+
+
+def unpad(data, count):
+    if count > min(8 * len(data), 524288):
+        return 6, 0
+    if count == 0 or count % 128:
+        return 7, 0
+    at = bits(data)[:count].rfind('1')
+    return (10, 0) if at < 0 else (0, at)
+
+
+def neighbour_number(iv, text, j):
+    if len(iv) != 16:
+        return 2
+    return 11 if len(text) % 16 or j >= len(text) // 16 else 0
+
+
+def neighbour(iv, text, j):
+    if neighbour_number(iv, text, j):
+        return b''
+    return (iv + text)[16 * j:16 * j + 16]
+
+
+def single_block(key, iv, text, j, out, place):
+    if len(key) not in (16, 24, 32):
+        return 1, out
+    number = neighbour_number(iv, text, j)
+    if number:
+        return number, out
+    if not room(128, len(out), place):
+        return 8, out
+    plain = bytes(a ^ b for a, b in zip(decrypt(key, text[16 * j:16 * j + 16]), neighbour(iv, text, j)))
+    return 0, written(out, place, bits(plain))
+
+
+# the published blocks: FIPS 197 appendix C
+for size, block in ((16, '69c4e0d86a7b0430d8cdb78070b4c55a'), (24, 'dda97ca4864cdfe06eaf70a0ec0d7191'),
+                    (32, '8ea2b7ca516745bfeafc49904b496089')):
+    assert encrypt(bytes(range(size)), bytes(0x11 * i for i in range(16))).hex() == block
+    assert decrypt(bytes(range(size)), bytes.fromhex(block)) == bytes(0x11 * i for i in range(16))
