@@ -1,0 +1,2 @@
+-- What the text program prints, for every input.
+pub mod Answer
