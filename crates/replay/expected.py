@@ -1,0 +1,243 @@
+# What replay must print, from the list of commands at the head of src/main.rt, over harness/document01.py.
+#     python3 expected.py lines > stdin            the list of commands
+#     python3 expected.py < stdin > stdout         what they must print
+import os
+import random
+import re
+import sys
+
+sys.path.insert(0, os.path.join(os.path.dirname(os.path.abspath(__file__)), '..', '..', 'harness'))
+from document01 import REFUSED, feed, neighbour, opening, pad, single_block, unpad
+
+
+# the lines
+
+class Bad(Exception):
+    pass
+
+
+def read_number(word, most=2 ** 64 - 1):
+    if not re.fullmatch('[0-9]+', word):
+        raise Bad
+    digits = word.lstrip('0') or '0'
+    if len(digits) > 20 or int(digits) > most:
+        raise Bad
+    return int(digits)
+
+
+def read_bytes(word, most):
+    if word == '-':
+        return b''
+    if not re.fullmatch('([0-9a-f]{2})+', word) or len(word) > 2 * most:
+        raise Bad
+    return bytes.fromhex(word)
+
+
+def read_one_of(word, words):
+    if word not in words:
+        raise Bad
+    return word
+
+
+def read_fill(word):
+    if word == '-':
+        raise Bad
+    return read_bytes(word, 1)
+
+
+def show(data):
+    return data.hex() or '-'
+
+
+LONGEST = 65600
+LINE = 133120
+
+
+class Replay:
+    def __init__(self):
+        self.session = self.kept = REFUSED
+
+    def open(self, mode, n, way, key, iv):
+        mode = read_one_of(mode, ('ECB', 'CBC', 'CFB', 'OFB', 'CTR'))
+        way = read_one_of(way, ('E', 'D'))
+        number, self.session = opening(mode, way, read_number(n), read_bytes(key, LONGEST), read_bytes(iv, LONGEST))
+        return str(number)
+
+    def feed(self, count, size, place, fill, data):
+        out = read_fill(fill) * read_number(size, LONGEST)
+        number, self.session, out = feed(self.session, read_bytes(data, LONGEST), read_number(count), out, read_number(place))
+        s = self.session
+        return f"{number} {show(out)} {s['r'].hex()} {s['units']} {s['closed']}"
+
+    def pad(self, count, size, place, fill, data):
+        out = read_fill(fill) * read_number(size, LONGEST)
+        number, length, out = pad(read_bytes(data, LONGEST), read_number(count), out, read_number(place))
+        return f'{number} {length} {show(out)}'
+
+    def unpad(self, count, data):
+        number, length = unpad(read_bytes(data, LONGEST), read_number(count))
+        return f'{number} {length}'
+
+    def neighbour(self, iv, text, j):
+        return show(neighbour(read_bytes(iv, LONGEST), read_bytes(text, LONGEST), read_number(j)))
+
+    def block(self, key, iv, text, j, size, place, fill):
+        out = read_fill(fill) * read_number(size, LONGEST)
+        number, out = single_block(read_bytes(key, LONGEST), read_bytes(iv, LONGEST), read_bytes(text, LONGEST), read_number(j), out,
+                            read_number(place))
+        return f'{number} {show(out)}'
+
+    def keep(self):
+        self.kept = self.session
+        return 'kept'
+
+    # a key gives its round keys, and different keys of one length give different ones
+    def alike(self):
+        same = all(self.session[k] == self.kept[k] for k in ('mode', 'way', 'n', 'key', 'r'))
+        return 'yes' if same else 'no'
+
+    COMMANDS = {'open': 5, 'feed': 5, 'pad': 5, 'unpad': 2, 'neighbour': 3, 'block': 7, 'keep': 0, 'alike': 0}
+
+    def line(self, line):
+        name, *words = line.split(' ')
+        if len(line) > LINE or self.COMMANDS.get(name) != len(words):
+            return '?'
+        try:
+            return getattr(self, name)(*words)
+        except Bad:
+            return '?'
+
+
+# the list of commands
+
+KEY = '2b7e151628aed2a6abf7158809cf4f3c'
+KEY24 = '8e73b0f7da0e6452c810f32b809079e562f8ead2522c6b7b'
+KEY32 = '603deb1015ca71be2b73aef0857d77811f352c073b6108d72d9810a30914dff4'
+IV = '000102030405060708090a0b0c0d0e0f'
+TEXT = '6bc1bee22e409f96e93d7e117393172aae2d8a571e03ac9c9eb76fac45af8e51'
+
+
+def first_lines():
+    yield from ('alike', 'feed 8 1 0 ee 6b', 'keep', 'alike')
+    yield from (f'open CFB 8 E {KEY} {IV}', 'alike', 'feed 16 2 0 ee 6bc1', 'keep', 'alike', 'feed 0 0 0 ee -', 'alike')
+    yield from ('feed 8 1 0 ee 00', 'alike', f'open CFB 8 E {KEY} 02030405060708090a0b0c0d0e0f3b79', 'alike')
+
+
+# each mode both ways under each key, a list of feeds, the last of them a short unit or a refused one
+def mode_lines():
+    for mode, n in (('ECB', 128), ('CBC', 128), ('CFB', 1), ('CFB', 3), ('CFB', 8), ('CFB', 128), ('OFB', 128), ('CTR', 128)):
+        for key in (KEY, KEY24, KEY32):
+            for way in 'ED':
+                iv = '-' if mode == 'ECB' else 'fffffffffffffffffffffffffffffffe'
+                yield f'open {mode} {n} {way} {key} {iv}'
+                few = 2 * n if n < 8 else n
+                yield f'feed {few} 20 3 a5 {TEXT}'
+                yield f'feed {2 * n} 40 0 ff {TEXT}'
+                yield 'alike'
+                yield 'keep'
+                yield f'feed {n + 5} 40 1 00 {TEXT}'
+                yield 'feed 0 1 1 00 -'
+                yield 'alike'
+
+
+def question_lines():
+    yield from (f'open CTR 0 E {KEY}00 00', f'open CTR 0 E {KEY} 00', f'open CTR 0 E {KEY} {IV}', 'alike')
+    yield from ('open CFB 0 D - -', f'open CFB 0 D {KEY} {IV}', f'open CFB 129 D {KEY} {IV}', f'open ECB 128 D {KEY} {IV}')
+    yield from (f'open CFB 18446744073709551615 D {KEY} {IV}', f'open CFB 0008 D {KEY} {IV}', 'feed 9 2 0 00 6bc1')
+    yield from ('feed 17 2 0 00 6bc1', 'feed 16 2 1 00 6bc1', 'feed 16 2 3 00 6bc1', 'feed 0 2 2 00 6bc1', 'feed 0 2 3 00 -')
+    yield from ('feed 18446744073709551615 2 18446744073709551615 00 6bc1', 'feed 524296 2 0 00 6bc1')
+    yield from ('feed 16 2 18446744073709551615 00 6bc1', f'open CTR 128 E {KEY} {IV}', 'feed 3 1 0 ff ff', 'feed 0 1 0 ff ff')
+
+
+def text_lines():
+    for count in (0, 1, 7, 8, 127, 128, 129, 255, 256):
+        yield f'pad {count} 49 1 ee {TEXT}'
+    yield from (f'pad 257 49 1 ee {TEXT}', 'pad 0 16 0 00 -', 'pad 0 15 0 ee -', 'pad 0 16 1 ee -', 'pad 0 0 0 ee -')
+    yield from ('pad 0 0 1 ee -', 'pad 524288 0 0 ee -', 'pad 18446744073709551615 0 18446744073709551615 ee -')
+    for tail in ('00', '80', '01', '10'):
+        yield f'unpad 128 {IV[:30]}{tail}'
+        yield f'unpad 256 {IV[:30]}{tail}{"00" * 16}'
+    yield from (f'unpad 128 {"00" * 16}', f'unpad 0 {IV}', f'unpad 127 {IV}', f'unpad 129 {IV}', 'unpad 128 -', 'unpad 0 -')
+    yield from (f'unpad 128 {TEXT}', f'unpad 256 80{"00" * 31}', 'unpad 18446744073709551615 00')
+    for j in (0, 1, 2, 18446744073709551615):
+        yield f'neighbour {IV} {TEXT} {j}'
+        yield f'block {KEY24} {IV} {TEXT} {j} 18 1 ee'
+    yield from (f'neighbour {IV} {TEXT}00 0', f'neighbour {IV}00 {TEXT} 0', f'neighbour - {TEXT} 1', f'neighbour {IV} - 0')
+    yield from (f'block {KEY}00 - 00 9 0 1 ee', f'block {KEY} - 00 9 0 1 ee', f'block {KEY} {IV} 00 9 0 1 ee')
+    yield from (f'block {KEY} {IV} {IV} 1 0 1 ee', f'block {KEY} {IV} {IV} 0 0 1 ee', f'block {KEY} {IV} {IV} 0 17 2 ee')
+    yield from (f'block {KEY32} {IV} {IV} 0 16 0 ee', f'block {KEY32} {IV} {IV} 0 15 0 ee')
+
+
+# a good line, and it with a word left out, added, doubled by a space or changed
+def bad_lines():
+    good = (f'open CFB 8 E {KEY} {IV}', f'feed 8 2 1 ee {IV}', f'pad 8 16 0 ee {IV}', f'unpad 128 {IV}',
+            f'neighbour {IV} {IV} 0', f'block {KEY} {IV} {IV} 0 16 0 ee', 'keep', 'alike')
+    numbers = ('', '-', '-1', '+1', '0x8', '1a', '18446744073709551616', '99999999999999999999', '1.0', '8\r', '8\t')
+    data = ('', '0', '000', '0A', 'AB', '0g', '--', '-00', '0-', '0x', '/0', ':0', '`0', 'g0', '\x80\x80', '\0\0')
+    kinds = {'open': 'mnwbb', 'feed': 'nnnfb', 'pad': 'nnnfb', 'unpad': 'nb', 'neighbour': 'bbn', 'block': 'bbbnnnf'}
+    wrong = {'m': ('', 'ecb', 'CBCX', 'CB', 'Ecb', '-'), 'n': numbers, 'w': ('', 'e', 'd', 'ED', 'F', '-'),
+             'b': data, 'f': data + ('-', '000000', 'e')}
+    yield from ('', ' ', '  ', '?', 'close', 'Open', 'opens', 'kee', 'keep\0', '\r', '\xff')
+    for line in good:
+        words = line.split(' ')
+        yield line
+        for changed in (words[:-1], words[1:], words + ['0'], [''] + words, words + [''], [words[0].upper()] + words[1:],
+                        [words[0][:-1]] + words[1:], ['', ''] + words[1:]):
+            yield ' '.join(changed)
+        for k in range(1, len(words)):
+            for other in wrong[kinds[words[0]][k - 1]]:
+                yield ' '.join(words[:k] + [other] + words[k + 1:])
+        yield line
+        yield 'alike'
+
+
+# the largest of each word and of a line, and one more
+def long_lines():
+    for count in (64, 65):
+        yield f'open CTR 128 E {"00" * count} {IV}'
+        yield f'open CTR 128 E {KEY} {"00" * count}'
+        yield f'neighbour {"00" * count} {IV} 0'
+        yield f'block {"00" * count} {IV} {IV} 0 0 0 00'
+        yield f'block {KEY} {"00" * count} {IV} 0 0 0 00'
+    yield f'open CTR 128 D {KEY} {IV}'
+    yield f'feed 9 65600 65598 5a {"ff" * 65600}'
+    yield from ('feed 9 65601 0 5a ff', 'pad 9 65601 0 5a ffff', f'block {KEY} {IV} {IV} 0 65601 0 00')
+    yield from (f'feed 9 2 0 5a {"ff" * 65601}', f'block {KEY} {IV} {"ff" * 65601} 0 16 0 00', 'feed 0 00065600 65600 00 -')
+    for length in (LINE, LINE + 1):
+        yield f'neighbour {IV} {IV} '.ljust(length, '0')
+
+
+def random_lines():
+    chance = random.Random(38)
+
+    def data(most):
+        return chance.randbytes(chance.randrange(most + 1)).hex() or '-'
+
+    for _ in range(12):
+        mode = chance.choice(('ECB', 'CBC', 'CFB', 'CFB', 'OFB', 'CTR'))
+        n = chance.randrange(1, 129) if mode == 'CFB' else 128
+        iv = '-' if mode == 'ECB' else chance.randbytes(16).hex()
+        yield f'open {mode} {n} {chance.choice("ED")} {chance.randbytes(chance.choice((16, 24, 32))).hex()} {iv}'
+        for _ in range(6):
+            units, spare = chance.randrange(4), chance.choice((0, 0, 0, 0, 1))
+            size = chance.randrange(30, 80)
+            yield f'feed {units * n + spare} {size} {chance.randrange(12)} {chance.randbytes(1).hex()} {data(60)}'
+        yield 'alike'
+        yield chance.choice(('keep', 'alike'))
+
+
+def main():
+    if sys.argv[1:] == ['lines']:
+        for lines in (first_lines, mode_lines, question_lines, text_lines, bad_lines, random_lines, long_lines):
+            for line in lines():
+                sys.stdout.buffer.write(line.encode('latin-1') + b'\n')
+        # the last line has no line feed
+        sys.stdout.buffer.write(b'keep')
+        return
+    replay = Replay()
+    lines = sys.stdin.buffer.read().decode('latin-1').split('\n')
+    for line in lines if lines[-1] else lines[:-1]:
+        print(replay.line(line))
+
+
+main()

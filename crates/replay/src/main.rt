@@ -1,0 +1,150 @@
+// Runs a written list of calls, one to a line of standard input, and prints each call's answer as one line: a recorded
+// transmission is replayed, or a test drives lists of feeds. Bytes are lower-case hexadecimal, `-` for none; numbers are
+// decimal; FILL is the byte that the output holds before the call.
+//
+//     open MODE N E|D KEY IV                  NUMBER
+//     feed BITS OUTLEN PLACE FILL INPUT       NUMBER OUT R UNITS CLOSED
+//     pad BITS OUTLEN PLACE FILL INPUT        NUMBER LENGTH OUT
+//     unpad BITS INPUT                        NUMBER LENGTH
+//     neighbour IV TEXT J                     the part
+//     block KEY IV TEXT J OUTLEN PLACE FILL   NUMBER OUT
+//     keep                                    kept: `alike` compares with this session from now on
+//     alike                                   yes or no
+//
+// A session that a refused opening gave is there before the first `open` and `keep`. A line of another form prints `?` and
+// changes nothing; so does one that is too long: INPUT, TEXT and OUTLEN have at most 65,600 bytes, and the whole line, without
+// its line feed, 133,120. A last line that no line feed ends counts if it is not empty.
+mod arguments;
+mod commands;
+mod hex;
+mod numbers;
+mod parts;
+mod print;
+mod sessions;
+mod state;
+mod texts;
+mod words;
+
+use libc::STDIN_FILENO;
+use parts::first;
+use state::State;
+
+// Adds a byte to the line. A full line is too long, and stays full.
+fn push(line: &mut [u8], len: usize, b: u8) -> usize {
+    if len < line.len() {
+        line[len] = b;
+        return len + 1;
+    }
+    len
+}
+
+// Runs the line that is gathered, and starts the next one.
+fn end_line(
+    line: &[u8],
+    input: &mut [u8],
+    out: &mut [u8],
+    text: &mut [u8; 65536],
+    state: State,
+) -> State {
+    let len = state.len;
+    let next = state.with_len(0);
+    if len < line.len() {
+        commands::run(first(line, len), input, out, text, next)
+    } else {
+        next.with_end(print::bad(text, next.end))
+    }
+}
+
+// Runs each line that ends in this part of the input, and gathers what stands behind the last.
+fn run_part(
+    part: &[u8],
+    line: &mut [u8],
+    input: &mut [u8],
+    out: &mut [u8],
+    text: &mut [u8; 65536],
+    state: State,
+) -> State {
+    let mut now = state;
+    let mut i = 0;
+    while i < part.len() {
+        let b = part[i];
+        i += 1;
+        if b != b'\n' {
+            now.len = push(line, now.len, b);
+            continue;
+        }
+        let next = end_line(line, input, out, text, now);
+        now = next;
+    }
+    now
+}
+
+// What stands behind the last line feed.
+fn run_last(
+    line: &[u8],
+    input: &mut [u8],
+    out: &mut [u8],
+    text: &mut [u8; 65536],
+    state: State,
+) -> State {
+    if state.len == 0 {
+        return state.stopped();
+    }
+    let last = end_line(line, input, out, text, state);
+    last.with_end(print::flush(text, last.end)).stopped()
+}
+
+// Reads once, and answers how many bytes came: 0 where the input has ended.
+fn read_part(part: &mut [u8]) -> usize {
+    let got = libc::read(STDIN_FILENO, part);
+    io::count(got, part)
+}
+
+// Runs the first `count` bytes of the part and writes the answers. With none, the input has ended.
+fn run_first(
+    part: &[u8],
+    count: usize,
+    line: &mut [u8],
+    input: &mut [u8],
+    out: &mut [u8],
+    text: &mut [u8; 65536],
+    state: State,
+) -> State {
+    if count == 0 {
+        return run_last(line, input, out, text, state);
+    }
+    let next = run_part(first(part, count), line, input, out, text, state);
+    next.with_end(print::flush(text, next.end))
+}
+
+// A proved loop has to end, and nothing says that the input does. So the loop counts its turns down, from a number that no
+// run uses up.
+fn run_all(
+    part: &mut [u8],
+    line: &mut [u8],
+    input: &mut [u8],
+    out: &mut [u8],
+    text: &mut [u8; 65536],
+) {
+    let mut state = State::new();
+    let mut turns = u64::MAX;
+    while turns > 0 {
+        turns -= 1;
+        let count = read_part(part);
+        let next = run_first(part, count, line, input, out, text, state);
+        if next.stop {
+            return;
+        }
+        state = next;
+    }
+}
+
+fn main() {
+    let mut part = [0u8; 65536];
+    // A byte more than the longest line.
+    let mut line = [0u8; 133121];
+    let mut input = [0u8; 65600];
+    let mut out = [0u8; 65600];
+    let mut text = [0u8; 65536];
+    run_all(&mut part, &mut line, &mut input, &mut out, &mut text);
+}

@@ -1,0 +1,137 @@
+// The commands open and feed.
+use crate::arguments::DirectionWord;
+use crate::arguments::ModeWord;
+use crate::arguments::Output;
+use crate::arguments::direction_word;
+use crate::arguments::mode_word;
+use crate::arguments::output_words;
+use crate::hex;
+use crate::hex::Short;
+use crate::numbers::Number;
+use crate::numbers::decimal;
+use crate::parts::fill;
+use crate::parts::first;
+use crate::print;
+use crate::state::State;
+use crate::words::word;
+use modes::Session;
+use rules::Direction;
+use rules::Mode;
+
+fn bad(state: State, text: &mut [u8; 65536]) -> State {
+    state.with_end(print::bad(text, state.end))
+}
+
+fn open_under(
+    mode: Mode,
+    direction: Direction,
+    n: usize,
+    key: Short,
+    iv: Short,
+    text: &mut [u8; 65536],
+    state: State,
+) -> State {
+    let key_bytes = key.bytes;
+    let iv_bytes = iv.bytes;
+    let opened = Session::open(
+        mode,
+        direction,
+        n,
+        first(&key_bytes, key.count),
+        first(&iv_bytes, iv.count),
+    );
+    let session = opened.session;
+    let end = print::number(text, state.end, opened.number as u64, b'\n');
+    state.with_session(session, end)
+}
+
+// open MODE N E|D KEY IV
+pub fn open(line: &[u8], text: &mut [u8; 65536], state: State) -> State {
+    let ModeWord::Named(mode) = mode_word(word(line, 1)) else {
+        return bad(state, text);
+    };
+    let Number::Value(n) = decimal(word(line, 2)) else {
+        return bad(state, text);
+    };
+    let DirectionWord::Named(direction) = direction_word(word(line, 3)) else {
+        return bad(state, text);
+    };
+    let key = hex::short_bytes(word(line, 4));
+    if !key.good {
+        return bad(state, text);
+    }
+    let iv = hex::short_bytes(word(line, 5));
+    if !iv.good {
+        return bad(state, text);
+    }
+    open_under(mode, direction, n, key, iv, text, state)
+}
+
+// What a feed gave: its number, the output, and the session's R, units and closing.
+fn print_fed(
+    text: &mut [u8; 65536],
+    end: usize,
+    number: u8,
+    out: &[u8],
+    session: Session,
+) -> usize {
+    let mut at = print::number(text, end, number as u64, b' ');
+    at = print::bytes(text, at, out, b' ');
+    let register = session.register;
+    at = print::block(text, at, register, b' ');
+    at = print::number(text, at, session.units as u64, b' ');
+    if session.closed {
+        print::label(text, at, b"1", b'\n')
+    } else {
+        print::label(text, at, b"0", b'\n')
+    }
+}
+
+// Feeds the session, with an output of `size` bytes `value`.
+fn feed_into(
+    input: &[u8],
+    bits: usize,
+    out: &mut [u8],
+    size: usize,
+    place: usize,
+    value: u8,
+    text: &mut [u8; 65536],
+    state: State,
+) -> State {
+    let room = fill(out, size, value);
+    let session = state.session;
+    let fed = session.feed(input, bits, &mut out[..room], place);
+    let next = fed.session;
+    let end = print_fed(text, state.end, fed.number, first(out, room), next);
+    state.with_session(next, end)
+}
+
+// feed BITS OUTLEN PLACE FILL INPUT
+pub fn feed(
+    line: &[u8],
+    input: &mut [u8],
+    out: &mut [u8],
+    text: &mut [u8; 65536],
+    state: State,
+) -> State {
+    let Number::Value(bits) = decimal(word(line, 1)) else {
+        return bad(state, text);
+    };
+    let Output::Given { size, place, fill } = output_words(line, 2) else {
+        return bad(state, text);
+    };
+    let count = hex::bytes(word(line, 5), input);
+    if input.len() < count {
+        return bad(state, text);
+    }
+    feed_into(
+        first(input, count),
+        bits,
+        out,
+        size,
+        place,
+        fill,
+        text,
+        state,
+    )
+}

@@ -1,0 +1,163 @@
+// The commands that need no session: pad, unpad, neighbour and block. Each gives the next `end` of the output.
+use crate::arguments::Output;
+use crate::arguments::output_words;
+use crate::hex;
+use crate::hex::Short;
+use crate::numbers::Number;
+use crate::numbers::decimal;
+use crate::parts::fill;
+use crate::parts::first;
+use crate::print;
+use crate::words::word;
+
+fn pad_into(
+    input: &[u8],
+    bits: usize,
+    out: &mut [u8],
+    size: usize,
+    place: usize,
+    value: u8,
+    text: &mut [u8; 65536],
+    end: usize,
+) -> usize {
+    let room = fill(out, size, value);
+    let padded = padding::pad(input, bits, &mut out[..room], place);
+    let mut at = print::number(text, end, padded.number as u64, b' ');
+    at = print::number(text, at, padded.bits as u64, b' ');
+    print::bytes(text, at, first(out, room), b'\n')
+}
+
+// pad BITS OUTLEN PLACE FILL INPUT
+pub fn pad(
+    line: &[u8],
+    input: &mut [u8],
+    out: &mut [u8],
+    text: &mut [u8; 65536],
+    end: usize,
+) -> usize {
+    let Number::Value(bits) = decimal(word(line, 1)) else {
+        return print::bad(text, end);
+    };
+    let Output::Given { size, place, fill } = output_words(line, 2) else {
+        return print::bad(text, end);
+    };
+    let count = hex::bytes(word(line, 5), input);
+    if input.len() < count {
+        return print::bad(text, end);
+    }
+    pad_into(first(input, count), bits, out, size, place, fill, text, end)
+}
+
+// unpad BITS INPUT
+pub fn unpad(line: &[u8], input: &mut [u8], text: &mut [u8; 65536], end: usize) -> usize {
+    let Number::Value(bits) = decimal(word(line, 1)) else {
+        return print::bad(text, end);
+    };
+    let count = hex::bytes(word(line, 2), input);
+    if input.len() < count {
+        return print::bad(text, end);
+    }
+    let unpadded = padding::unpad(first(input, count), bits);
+    let at = print::number(text, end, unpadded.number as u64, b' ');
+    print::number(text, at, unpadded.bits as u64, b'\n')
+}
+
+fn print_neighbour<'a>(
+    iv: &'a [u8],
+    input: &'a [u8],
+    j: usize,
+    text: &mut [u8; 65536],
+    end: usize,
+) -> usize {
+    print::bytes(text, end, inspect::neighbour(iv, input, j), b'\n')
+}
+
+// neighbour IV TEXT J
+pub fn neighbour(line: &[u8], input: &mut [u8], text: &mut [u8; 65536], end: usize) -> usize {
+    let Number::Value(j) = decimal(word(line, 3)) else {
+        return print::bad(text, end);
+    };
+    let iv = hex::short_bytes(word(line, 1));
+    if !iv.good {
+        return print::bad(text, end);
+    }
+    let count = hex::bytes(word(line, 2), input);
+    if input.len() < count {
+        return print::bad(text, end);
+    }
+    let iv_bytes = iv.bytes;
+    print_neighbour(
+        first(&iv_bytes, iv.count),
+        first(input, count),
+        j,
+        text,
+        end,
+    )
+}
+
+fn block_into<'a>(
+    key: Short,
+    iv: &'a [u8],
+    input: &'a [u8],
+    j: usize,
+    out: &mut [u8],
+    size: usize,
+    place: usize,
+    value: u8,
+    text: &mut [u8; 65536],
+    end: usize,
+) -> usize {
+    let key_bytes = key.bytes;
+    let room = fill(out, size, value);
+    let number = inspect::decrypt_block(
+        first(&key_bytes, key.count),
+        iv,
+        input,
+        j,
+        &mut out[..room],
+        place,
+    );
+    let at = print::number(text, end, number as u64, b' ');
+    print::bytes(text, at, first(out, room), b'\n')
+}
+
+// block KEY IV TEXT J OUTLEN PLACE FILL
+pub fn block(
+    line: &[u8],
+    input: &mut [u8],
+    out: &mut [u8],
+    text: &mut [u8; 65536],
+    end: usize,
+) -> usize {
+    let Number::Value(j) = decimal(word(line, 4)) else {
+        return print::bad(text, end);
+    };
+    let Output::Given { size, place, fill } = output_words(line, 5) else {
+        return print::bad(text, end);
+    };
+    let key = hex::short_bytes(word(line, 1));
+    if !key.good {
+        return print::bad(text, end);
+    }
+    let iv = hex::short_bytes(word(line, 2));
+    if !iv.good {
+        return print::bad(text, end);
+    }
+    let count = hex::bytes(word(line, 3), input);
+    if input.len() < count {
+        return print::bad(text, end);
+    }
+    let iv_bytes = iv.bytes;
+    block_into(
+        key,
+        first(&iv_bytes, iv.count),
+        first(input, count),
+        j,
+        out,
+        size,
+        place,
+        fill,
+        text,
+        end,
+    )
+}
