@@ -1,2 +1,3 @@
--- What the boundary's contracts cite besides the definitions of the crate aes.
+-- What the boundary's contracts cite besides the definitions of the crates aes and modes.
 pub mod Chains
+pub mod Held

@@ -3,3 +3,4 @@
 // caller lends as `&mut` may overlap anything else that it lends.
 mod calls;
 mod chains;
+mod sessions;

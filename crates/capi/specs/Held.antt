@@ -1,0 +1,74 @@
+-- Sessions whose fields the caller holds apart: what a mode's number stands for, and what the two calls answer and write.
+use Prim.Native.Nat.{ℕ}
+use mathlib.Core.Path.{_≡_}
+use mathlib.Core.Bool.{Bool, cond}
+use mathlib.Core.List.{List}
+use lib.Dec.{eqb, leb}
+use lib.ListN.{length}
+use Rattle.rules.specs.declared.Mode.{Mode}
+use Rattle.rules.specs.declared.Mode.the-variants.{Ecb, Cbc, Cfb, Ofb, Ctr}
+use Rattle.rules.specs.declared.Direction.{Direction}
+use Rattle.rules.specs.declared.Direction.the-variants.{Encrypt, Decrypt}
+use Rattle.modes.specs.declared.session.Session.{Session}
+use Rattle.modes.specs.Sessions.{openNumber, openedSession, refusedSession, feedNumber, fedText, sessionText, fedSession, written}
+
+-- ---- the numbers
+
+unfoldable pub modeOf : ℕ → Mode
+modeOf code = cond (eqb code 0) Ecb (cond (eqb code 1) Cbc (cond (eqb code 2) Cfb (cond (eqb code 3) Ofb Ctr)))
+
+unfoldable pub directionOf : Bool → Direction
+directionOf decrypting = cond decrypting Decrypt Encrypt
+
+-- A number above 4 is no mode, and the call is answered 12.
+unfoldable pub coded : ℕ → ℕ → ℕ
+coded code number = cond (leb code 4) number 12
+
+-- ---- open
+
+unfoldable pub openedNumber : ℕ → ℕ → List ℕ → List ℕ → ℕ
+openedNumber code n key iv = coded code (openNumber (modeOf code) n key iv)
+
+unfoldable pub openedAs : ℕ → Bool → ℕ → List ℕ → List ℕ → Session
+openedAs code decrypting n key iv =
+    cond (eqb (openedNumber code n key iv) 0) (openedSession (modeOf code) (directionOf decrypting) n key iv) refusedSession
+
+-- What an opening answers and writes. Mode, direction and n the caller has.
+pub record OpenedAt (code : ℕ) (decrypting : Bool) (n : ℕ) (key iv : List ℕ) (r rounds : ℕ) (keys register : List ℕ) (units : ℕ) (closed : Bool)
+    : Type 0 where
+  pub answer : r ≡ openedNumber code n key iv
+  pub rounds-written : rounds ≡ openedAs code decrypting n key iv .rounds
+  pub keys-written : keys ≡ openedAs code decrypting n key iv .keys
+  pub register-written : register ≡ openedAs code decrypting n key iv .register
+  pub units-written : units ≡ openedAs code decrypting n key iv .units
+  pub closed-written : closed ≡ openedAs code decrypting n key iv .closed
+
+-- ---- feed
+
+unfoldable pub held : ℕ → Bool → ℕ → ℕ → List ℕ → List ℕ → ℕ → Bool → Session
+held code decrypting n rounds keys register units closed =
+    record {
+      mode = modeOf code;
+      direction = directionOf decrypting;
+      n = n;
+      rounds = rounds;
+      keys = keys;
+      register = register;
+      units = units;
+      closed = closed;
+    }
+
+-- What a feed of the session s answers and writes, s being held under the mode's number `code`.
+module _ (code : ℕ) (s : Session) (input : List ℕ) (count : ℕ) (out : List ℕ) (place : ℕ) where
+  unfoldable pub fedNumber : ℕ
+  fedNumber = coded code (feedNumber s (length input) count (length out) place)
+
+  unfoldable pub fedAs : Session
+  fedAs = cond (eqb fedNumber 0) (fedSession s (fedText input count)) s
+
+  pub record FedAt (r : ℕ) (register : List ℕ) (units : ℕ) (closed : Bool) (after : List ℕ) : Type 0 where
+    pub answer : r ≡ fedNumber
+    pub register-written : register ≡ fedAs .register
+    pub units-written : units ≡ fedAs .units
+    pub closed-written : closed ≡ fedAs .closed
+    pub output : after ≡ cond (eqb fedNumber 0) (written out place (sessionText s (fedText input count))) out
