@@ -1,21 +1,33 @@
 # shellcheck shell=bash
-# Sourced by test and bench: sees that a C linker, rustc and OpenSSL's libcrypto are there, and installs the Debian
-# packages of those that are missing. Exits where that fails.
+# Sourced by test and bench: sees that a C compiler, rustc, python3 and the C libraries that are named (crypto, tomcrypt) are
+# there, and installs the Debian packages of those that are missing. Exits where that fails.
+needed_libraries=("$@")
 
-links_libcrypto() {
+links() { # LIBRARY
     local folder status
     folder=$(mktemp -d) || return 1
-    echo 'int main(void) { return 0; }' | cc -x c - -lcrypto -o "$folder/program" 2>"$folder/said"
+    echo 'int main(void) { return 0; }' | cc -x c - "-l$1" -o "$folder/program" 2>"$folder/said"
     status=$?
     rm -rf "$folder"
     return "$status"
 }
 
+package_of() { # LIBRARY
+    case $1 in
+        crypto) echo libssl-dev ;;
+        tomcrypt) echo libtomcrypt-dev ;;
+    esac
+}
+
 # Prints them, one to a line.
 missing_packages() {
+    local library
     command -v cc >/dev/null || printf '%s\n' gcc libc6-dev
     rustc --version >/dev/null 2>&1 || echo rustc
-    links_libcrypto || echo libssl-dev
+    command -v python3 >/dev/null || echo python3
+    for library in "${needed_libraries[@]}"; do
+        links "$library" || package_of "$library"
+    done
 }
 
 install_packages() {

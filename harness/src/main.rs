@@ -1,25 +1,27 @@
-// What other programs see of the proved code: `tests` holds it against a second implementation, `bench` measures both.
-// The tests go by subject, a file each; its `run` hands its tests to the report.
+// What other programs see of the proved code, held against a second implementation. The tests go by subject, a file each;
+// its `run` hands its tests to the report.
 mod aes;
-mod bench;
+mod modeline;
 mod openssl;
+mod process;
 mod rattle;
+mod reference;
+mod replay;
 mod report;
 mod rng;
+mod scenario;
+mod sessions;
+mod stack;
 
 fn main() {
-    match std::env::args().nth(1).as_deref() {
-        Some("tests") => {
-            let mut report = report::Report::new();
-            aes::run(&mut report);
-            if !report.end() {
-                std::process::exit(1);
-            }
-        }
-        Some("bench") => bench::run(),
-        _ => {
-            eprintln!("usage: harness tests | harness bench");
-            std::process::exit(2);
-        }
+    let mut report = report::Report::new();
+    aes::run(&mut report);
+    sessions::run(&mut report);
+    scenario::run(&mut report);
+    stack::run(&mut report);
+    replay::run(&mut report);
+    modeline::run(&mut report);
+    if !report.end() {
+        std::process::exit(1);
     }
 }

@@ -39,9 +39,13 @@ extern "C" {
         input_length: c_int,
     ) -> c_int;
     fn AES_set_encrypt_key(key: *const c_uchar, bits: c_int, schedule: *mut Schedule) -> c_int;
+    fn AES_set_decrypt_key(key: *const c_uchar, bits: c_int, schedule: *mut Schedule) -> c_int;
+    fn AES_encrypt(block: *const c_uchar, out: *mut c_uchar, schedule: *const Schedule);
+    fn AES_decrypt(block: *const c_uchar, out: *mut c_uchar, schedule: *const Schedule);
 }
 
 // AES_KEY of aes.h. On x86-64 the words lie in memory as FIPS 197 has their bytes.
+#[derive(Clone)]
 #[repr(C)]
 struct Schedule {
     keys: [u8; 240],
@@ -130,4 +134,48 @@ pub fn expand(key: &[u8]) -> (usize, [u8; 240]) {
     let done = unsafe { AES_set_encrypt_key(key.as_ptr(), 8 * key.len() as c_int, &mut schedule) };
     assert!(done == 0);
     (schedule.rounds as usize, schedule.keys)
+}
+
+// Enc and Dec under a key.
+#[derive(Clone)]
+pub struct Key {
+    pub rounds: usize,
+    pub keys: [u8; 240],
+    encrypting: Schedule,
+    decrypting: Schedule,
+}
+
+impl Key {
+    pub fn new(key: &[u8]) -> Key {
+        let (rounds, keys) = expand(key);
+        let empty = Schedule {
+            keys: [0; 240],
+            rounds: 0,
+        };
+        let (mut encrypting, mut decrypting) = (empty.clone(), empty);
+        let bits = 8 * key.len() as c_int;
+        let done = unsafe {
+            AES_set_encrypt_key(key.as_ptr(), bits, &mut encrypting) == 0
+                && AES_set_decrypt_key(key.as_ptr(), bits, &mut decrypting) == 0
+        };
+        assert!(done);
+        Key {
+            rounds,
+            keys,
+            encrypting,
+            decrypting,
+        }
+    }
+
+    pub fn enc(&self, block: &[u8; 16]) -> [u8; 16] {
+        let mut out = [0; 16];
+        unsafe { AES_encrypt(block.as_ptr(), out.as_mut_ptr(), &self.encrypting) }
+        out
+    }
+
+    pub fn dec(&self, block: &[u8; 16]) -> [u8; 16] {
+        let mut out = [0; 16];
+        unsafe { AES_decrypt(block.as_ptr(), out.as_mut_ptr(), &self.decrypting) }
+        out
+    }
 }

@@ -27,6 +27,36 @@ extern "C" {
         block: *mut u8,
         count: usize,
     ) -> u8;
+    fn conguraha_open(
+        mode: u8,
+        decrypting: bool,
+        n: usize,
+        key: *const u8,
+        key_length: usize,
+        iv: *const u8,
+        iv_length: usize,
+        rounds: *mut usize,
+        keys: *mut u8,
+        register: *mut u8,
+        units: *mut u32,
+        closed: *mut bool,
+    ) -> u8;
+    fn conguraha_feed(
+        mode: u8,
+        decrypting: bool,
+        n: usize,
+        rounds: usize,
+        keys: *const u8,
+        register: *mut u8,
+        units: *mut u32,
+        closed: *mut bool,
+        input: *const u8,
+        input_length: usize,
+        bits: usize,
+        out: *mut u8,
+        out_length: usize,
+        place: usize,
+    ) -> u8;
 }
 
 const FILL: u8 = 0xa5;
@@ -74,4 +104,72 @@ pub fn chain(key: &[u8], decrypting: bool, block: &[u8; 16], count: usize) -> (u
     lend(*block, |place| unsafe {
         conguraha_aes_chain(key.as_ptr(), key.len(), decrypting, place, count)
     })
+}
+
+// A session, with its fields where the caller holds them.
+#[derive(Clone, Debug, PartialEq)]
+pub struct Session {
+    pub mode: u8,
+    pub decrypting: bool,
+    pub n: usize,
+    pub rounds: usize,
+    pub keys: [u8; 240],
+    pub register: [u8; 16],
+    pub units: u32,
+    pub closed: bool,
+}
+
+impl Session {
+    // The number, and what the opening gave. The mode is 0 for ECB, then CBC, CFB, OFB and CTR.
+    pub fn open(mode: u8, decrypting: bool, n: usize, key: &[u8], iv: &[u8]) -> (u8, Session) {
+        let mut session = Session {
+            mode,
+            decrypting,
+            n,
+            rounds: usize::MAX,
+            keys: [FILL; 240],
+            register: [FILL; 16],
+            units: u32::MAX,
+            closed: false,
+        };
+        let number = unsafe {
+            conguraha_open(
+                mode,
+                decrypting,
+                n,
+                key.as_ptr(),
+                key.len(),
+                iv.as_ptr(),
+                iv.len(),
+                &mut session.rounds,
+                session.keys.as_mut_ptr(),
+                session.register.as_mut_ptr(),
+                &mut session.units,
+                &mut session.closed,
+            )
+        };
+        (number, session)
+    }
+
+    // The number; the session moves.
+    pub fn feed(&mut self, input: &[u8], bits: usize, out: &mut [u8], place: usize) -> u8 {
+        unsafe {
+            conguraha_feed(
+                self.mode,
+                self.decrypting,
+                self.n,
+                self.rounds,
+                self.keys.as_ptr(),
+                self.register.as_mut_ptr(),
+                &mut self.units,
+                &mut self.closed,
+                input.as_ptr(),
+                input.len(),
+                bits,
+                out.as_mut_ptr(),
+                out.len(),
+                place,
+            )
+        }
+    }
 }

@@ -1,0 +1,290 @@
+// Document 01 once more, over OpenSSL's block functions: written from its text and not from the proved code. A text is a
+// vector of bits, and a unit is worked as the rules say it, with no thought of speed.
+use crate::openssl::{Direction, Key};
+
+pub const MAX_BITS: usize = 524_288;
+
+#[derive(Clone, Copy, Debug, PartialEq)]
+pub enum Mode {
+    Ecb,
+    Cbc,
+    Cfb,
+    Ofb,
+    Ctr,
+}
+
+pub const MODES: [Mode; 5] = [Mode::Ecb, Mode::Cbc, Mode::Cfb, Mode::Ofb, Mode::Ctr];
+
+impl Mode {
+    pub fn name(self) -> &'static str {
+        ["ECB", "CBC", "CFB", "OFB", "CTR"][self as usize]
+    }
+
+    // Question 3.
+    pub fn takes(self, n: usize) -> bool {
+        if self == Mode::Cfb {
+            (1..=128).contains(&n)
+        } else {
+            n == 128
+        }
+    }
+
+    // Question 2.
+    pub fn takes_iv(self, iv: &[u8]) -> bool {
+        iv.len() == if self == Mode::Ecb { 0 } else { 16 }
+    }
+
+    fn wants_whole_units(self) -> bool {
+        matches!(self, Mode::Ecb | Mode::Cbc | Mode::Cfb)
+    }
+}
+
+// How many parts of a size cover a length, the last one perhaps shorter.
+pub fn parts(length: usize, size: usize) -> usize {
+    length / size + (length % size != 0) as usize
+}
+
+pub fn bits(bytes: &[u8]) -> Vec<bool> {
+    bytes
+        .iter()
+        .flat_map(|byte| (0..8).map(move |i| byte >> (7 - i) & 1 == 1))
+        .collect()
+}
+
+// The spare low bits of the last byte are 0.
+pub fn bytes(bits: &[bool]) -> Vec<u8> {
+    let byte = |part: &[bool]| (0..8).fold(0, |b, i| 2 * b + *part.get(i).unwrap_or(&false) as u8);
+    bits.chunks(8).map(byte).collect()
+}
+
+fn block(bits: &[bool]) -> [u8; 16] {
+    bytes(bits).try_into().expect("128 bits")
+}
+
+fn sum(unit: &[bool], other: &[bool]) -> Vec<bool> {
+    unit.iter().zip(other).map(|(a, b)| a ^ b).collect()
+}
+
+#[derive(Clone)]
+pub struct Session {
+    pub mode: Mode,
+    pub direction: Direction,
+    pub n: usize,
+    pub key: Option<Key>,
+    pub register: [u8; 16],
+    pub units: u32,
+    pub closed: bool,
+}
+
+impl Session {
+    pub fn refused() -> Session {
+        Session {
+            mode: Mode::Ecb,
+            direction: Direction::Encrypt,
+            n: 0,
+            key: None,
+            register: [0; 16],
+            units: 0,
+            closed: true,
+        }
+    }
+
+    pub fn open(
+        mode: Mode,
+        direction: Direction,
+        n: usize,
+        key: &[u8],
+        iv: &[u8],
+    ) -> (u8, Session) {
+        let number = if ![16, 24, 32].contains(&key.len()) {
+            1
+        } else if !mode.takes_iv(iv) {
+            2
+        } else if !mode.takes(n) {
+            3
+        } else {
+            0
+        };
+        if number != 0 {
+            return (number, Session::refused());
+        }
+        let session = Session {
+            mode,
+            direction,
+            n,
+            key: Some(Key::new(key)),
+            register: iv.try_into().unwrap_or([0; 16]),
+            units: 0,
+            closed: false,
+        };
+        (0, session)
+    }
+
+    pub fn rounds(&self) -> usize {
+        self.key.as_ref().map_or(0, |key| key.rounds)
+    }
+
+    fn feed_number(&self, input: &[u8], count: usize, size: usize, place: usize) -> u8 {
+        if ![10, 12, 14].contains(&self.rounds()) || !self.mode.takes(self.n) {
+            return 4;
+        }
+        if self.closed {
+            return 5;
+        }
+        if count > 8 * input.len() || count > MAX_BITS {
+            return 6;
+        }
+        if self.mode.wants_whole_units() && count % self.n != 0 {
+            return 7;
+        }
+        if place > size || parts(count, 8) > size - place {
+            return 8;
+        }
+        if self.units as u64 + parts(count, self.n) as u64 > 4_294_967_295 {
+            return 9;
+        }
+        0
+    }
+
+    pub fn feed(&mut self, input: &[u8], count: usize, out: &mut [u8], place: usize) -> u8 {
+        let number = self.feed_number(input, count, out.len(), place);
+        if number == 0 {
+            let text = bits(&input[..parts(count, 8)]);
+            let worked: Vec<bool> = text[..count]
+                .chunks(self.n)
+                .flat_map(|unit| self.unit(unit))
+                .collect();
+            let written = bytes(&worked);
+            out[place..place + written.len()].copy_from_slice(&written);
+        }
+        number
+    }
+
+    // One unit by its mode's rule.
+    fn unit(&mut self, unit: &[bool]) -> Vec<bool> {
+        let key = self.key.as_ref().expect("an open session has a key");
+        let decrypting = self.direction == Direction::Decrypt;
+        let r = bits(&self.register);
+        self.units += 1;
+        self.closed = unit.len() < self.n;
+        match self.mode {
+            Mode::Ecb if decrypting => bits(&key.dec(&block(unit))),
+            Mode::Ecb => bits(&key.enc(&block(unit))),
+            Mode::Cbc if decrypting => {
+                let plain = sum(&bits(&key.dec(&block(unit))), &r);
+                self.register = block(unit);
+                plain
+            }
+            Mode::Cbc => {
+                self.register = key.enc(&block(&sum(unit, &r)));
+                bits(&self.register)
+            }
+            Mode::Cfb => {
+                let other = sum(unit, &bits(&key.enc(&self.register)));
+                let cipher = if decrypting { unit } else { &other };
+                self.register = block(&[&r[self.n..], cipher].concat());
+                other
+            }
+            Mode::Ofb => {
+                self.register = key.enc(&self.register);
+                sum(unit, &bits(&self.register))
+            }
+            Mode::Ctr => {
+                let text = sum(unit, &bits(&key.enc(&self.register)));
+                self.register = u128::from_be_bytes(self.register)
+                    .wrapping_add(1)
+                    .to_be_bytes();
+                text
+            }
+        }
+    }
+
+    pub fn alike(&self, other: &Session) -> bool {
+        let keys = |s: &Session| {
+            let all = s.key.as_ref().map_or([0; 240], |key| key.keys);
+            all[..(16 * (s.rounds() + 1)).min(240)].to_vec()
+        };
+        self.mode == other.mode
+            && self.direction == other.direction
+            && self.n == other.n
+            && self.rounds() == other.rounds()
+            && keys(self) == keys(other)
+            && self.register == other.register
+    }
+}
+
+// The number and the padded length.
+pub fn pad(input: &[u8], count: usize, out: &mut [u8], place: usize) -> (u8, usize) {
+    if count > 8 * input.len() || count > MAX_BITS - 1 {
+        return (6, 0);
+    }
+    let mut text = bits(&input[..parts(count, 8)]);
+    text.truncate(count);
+    text.push(true);
+    while text.len() % 128 != 0 {
+        text.push(false);
+    }
+    let padded = bytes(&text);
+    if place > out.len() || padded.len() > out.len() - place {
+        return (8, 0);
+    }
+    out[place..place + padded.len()].copy_from_slice(&padded);
+    (0, text.len())
+}
+
+// The number and the length before the padding.
+pub fn unpad(input: &[u8], count: usize) -> (u8, usize) {
+    if count > 8 * input.len() || count > MAX_BITS {
+        return (6, 0);
+    }
+    if count == 0 || count % 128 != 0 {
+        return (7, 0);
+    }
+    match bits(input)[..count].iter().rposition(|&bit| bit) {
+        Some(last) => (0, last),
+        None => (10, 0),
+    }
+}
+
+fn block_there(text: &[u8], j: usize) -> bool {
+    text.len() % 16 == 0 && j < text.len() / 16
+}
+
+pub fn neighbour<'a>(iv: &'a [u8], text: &'a [u8], j: usize) -> &'a [u8] {
+    if iv.len() != 16 || !block_there(text, j) {
+        &[]
+    } else if j == 0 {
+        iv
+    } else {
+        &text[16 * (j - 1)..16 * j]
+    }
+}
+
+pub fn single_block(
+    key: &[u8],
+    iv: &[u8],
+    text: &[u8],
+    j: usize,
+    out: &mut [u8],
+    place: usize,
+) -> u8 {
+    if ![16, 24, 32].contains(&key.len()) {
+        return 1;
+    }
+    if iv.len() != 16 {
+        return 2;
+    }
+    if !block_there(text, j) {
+        return 11;
+    }
+    if place > out.len() || out.len() - place < 16 {
+        return 8;
+    }
+    let cipher: [u8; 16] = text[16 * j..16 * j + 16].try_into().unwrap();
+    let plain = sum(
+        &bits(&Key::new(key).dec(&cipher)),
+        &bits(neighbour(iv, text, j)),
+    );
+    out[place..place + 16].copy_from_slice(&bytes(&plain));
+    0
+}

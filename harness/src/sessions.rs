@@ -1,0 +1,300 @@
+// Sessions through the static library: against OpenSSL's modes, and against the reference for what OpenSSL does not have.
+use crate::openssl::{Cipher, Direction};
+use crate::process;
+use crate::rattle;
+use crate::reference::{self, parts, Mode, MODES};
+use crate::report::{equal, hex, Outcome, Report};
+use crate::rng::Rng;
+
+const KEY_LENGTHS: [usize; 3] = [16, 24, 32];
+const DIRECTIONS: [(Direction, &str); 2] = [
+    (Direction::Encrypt, "encrypts"),
+    (Direction::Decrypt, "decrypts"),
+];
+const TEXTS: usize = 150;
+
+// The modes that OpenSSL has: n, and the end of OpenSSL's name.
+const SHARED: [(Mode, usize, &str); 7] = [
+    (Mode::Ecb, 128, "ecb"),
+    (Mode::Cbc, 128, "cbc"),
+    (Mode::Cfb, 1, "cfb1"),
+    (Mode::Cfb, 8, "cfb8"),
+    (Mode::Cfb, 128, "cfb"),
+    (Mode::Ofb, 128, "ofb"),
+    (Mode::Ctr, 128, "ctr"),
+];
+
+pub fn run(report: &mut Report) {
+    for (mode, n, name) in SHARED {
+        for length in KEY_LENGTHS {
+            for (direction, verb) in DIRECTIONS {
+                report.test(
+                    &format!(
+                        "AES-{} {verb} {TEXTS} texts, cut at random, as OpenSSL does in {name}",
+                        8 * length
+                    ),
+                    |rng| as_openssl(rng, mode, n, name, length, direction),
+                );
+            }
+        }
+    }
+    report.test(
+        "the counter of CTR goes through 2^128 as OpenSSL's does",
+        counter,
+    );
+    for mode in MODES {
+        report.test(
+            &format!(
+                "{} answers, writes and moves as the reference, refused feeds included",
+                mode.name()
+            ),
+            |rng| as_reference(rng, mode),
+        );
+    }
+    report.test("the example in C prints document 01's answer", |_| {
+        let came = process::run("target/harness/feed", &[])?;
+        equal(|| "examples/feed.c".to_string(), b"0 3b79\n".to_vec(), came)
+    });
+    report.test("the count of units ends at 4294967295", last_units);
+    report.test(
+        "a number that is no mode is answered 12 and changes nothing",
+        no_mode,
+    );
+}
+
+fn iv_for(rng: &mut Rng, mode: Mode) -> Vec<u8> {
+    rng.bytes(if mode == Mode::Ecb { 0 } else { 16 })
+}
+
+fn open(
+    mode: Mode,
+    direction: Direction,
+    n: usize,
+    key: &[u8],
+    iv: &[u8],
+) -> (u8, rattle::Session) {
+    rattle::Session::open(mode as u8, direction == Direction::Decrypt, n, key, iv)
+}
+
+// Feeds a text of whole bytes in parts that end at a unit and a byte, and gives what was written.
+fn fed_in_parts(
+    rng: &mut Rng,
+    session: &mut rattle::Session,
+    text: &[u8],
+    unit: usize,
+) -> Result<Vec<u8>, String> {
+    let mut out = vec![0; text.len()];
+    let mut at = 0;
+    while at < text.len() {
+        let end = (at + unit * (1 + rng.below(8))).min(text.len());
+        let number = session.feed(&text[at..end], 8 * (end - at), &mut out, at);
+        if number != 0 {
+            return Err(format!("a feed is answered {number}"));
+        }
+        at = end;
+    }
+    Ok(out)
+}
+
+fn as_openssl(
+    rng: &mut Rng,
+    mode: Mode,
+    n: usize,
+    name: &str,
+    length: usize,
+    direction: Direction,
+) -> Outcome {
+    for _ in 0..TEXTS {
+        let key = rng.bytes(length);
+        let iv = iv_for(rng, mode);
+        let unit = parts(n, 8);
+        let whole = unit * rng.below(40);
+        let short = matches!(mode, Mode::Ofb | Mode::Ctr) as usize * rng.below(16);
+        let text = rng.bytes(whole + short);
+        let (number, mut session) = open(mode, direction, n, &key, &iv);
+        let came = fed_in_parts(rng, &mut session, &text, unit)?;
+        let mut expected = vec![0; text.len()];
+        Cipher::new(name, &key, &iv, direction).update(&text, &mut expected);
+        equal(
+            || format!("key {} iv {} text {}", hex(&key), hex(&iv), hex(&text)),
+            (0, hex(&expected)),
+            (number, hex(&came)),
+        )?;
+    }
+    Ok(())
+}
+
+fn counter(rng: &mut Rng) -> Outcome {
+    for high in 0..16 {
+        let mut iv = [0xff; 16];
+        iv[..high].copy_from_slice(&rng.bytes(high));
+        iv[15] = 0xf0;
+        let key = rng.bytes(32);
+        let text = rng.bytes(16 * 40);
+        let (_, mut session) = open(Mode::Ctr, Direction::Encrypt, 128, &key, &iv);
+        let came = fed_in_parts(rng, &mut session, &text, 16)?;
+        let mut expected = vec![0; text.len()];
+        Cipher::new("ctr", &key, &iv, Direction::Encrypt).update(&text, &mut expected);
+        equal(|| format!("iv {}", hex(&iv)), hex(&expected), hex(&came))?;
+    }
+    Ok(())
+}
+
+// Every field of the session, and the output.
+fn same(
+    input: impl Fn() -> String,
+    expected: (u8, &reference::Session, &[u8]),
+    came: (u8, &rattle::Session, &[u8]),
+) -> Outcome {
+    let (number, session, out) = expected;
+    equal(&input, number, came.0)?;
+    let keys = session.key.as_ref().map_or([0; 240], |key| key.keys);
+    equal(
+        &input,
+        (session.rounds(), hex(&keys), hex(&session.register)),
+        (came.1.rounds, hex(&came.1.keys), hex(&came.1.register)),
+    )?;
+    equal(
+        &input,
+        (session.units, session.closed),
+        (came.1.units, came.1.closed),
+    )?;
+    equal(&input, hex(out), hex(came.2))
+}
+
+fn as_reference(rng: &mut Rng, mode: Mode) -> Outcome {
+    for n in 0..=130 {
+        let n = if mode == Mode::Cfb || rng.below(8) == 0 {
+            n
+        } else {
+            128
+        };
+        for (direction, _) in DIRECTIONS {
+            let key_length = *rng.pick(&[16, 16, 24, 24, 32, 32, 0, 17]);
+            let key = rng.bytes(key_length);
+            let iv_length = if rng.below(12) == 0 { 15 } else { 16 };
+            let iv = if mode == Mode::Ecb && rng.below(12) != 0 {
+                vec![]
+            } else {
+                rng.bytes(iv_length)
+            };
+            let (number, mut theirs) = reference::Session::open(mode, direction, n, &key, &iv);
+            let (came, mut ours) = open(mode, direction, n, &key, &iv);
+            let opening = || format!("{} {n} key {} iv {}", mode.name(), hex(&key), hex(&iv));
+            same(opening, (number, &theirs, &[]), (came, &ours, &[]))?;
+            for _ in 0..6 {
+                let feed = Feed::any(rng, n);
+                let mut expected = feed.out.clone();
+                let mut out = feed.out.clone();
+                let number = theirs.feed(&feed.input, feed.bits, &mut expected, feed.place);
+                let came = ours.feed(&feed.input, feed.bits, &mut out, feed.place);
+                same(
+                    || {
+                        format!(
+                            "{}, {} bits of {} to {}",
+                            opening(),
+                            feed.bits,
+                            hex(&feed.input),
+                            feed.place
+                        )
+                    },
+                    (number, &theirs, &expected),
+                    (came, &ours, &out),
+                )?;
+            }
+        }
+    }
+    Ok(())
+}
+
+// A feed's arguments: most are accepted, some break a question each.
+pub struct Feed {
+    pub input: Vec<u8>,
+    pub bits: usize,
+    pub out: Vec<u8>,
+    pub place: usize,
+}
+
+impl Feed {
+    pub fn any(rng: &mut Rng, n: usize) -> Feed {
+        let units = rng.below(if n < 8 { 40 } else { 6 });
+        let mut bits = units * n.max(1);
+        match rng.below(16) {
+            0 => bits += rng.below(128),
+            1 => bits = rng.number() as usize,
+            2 => bits = 0,
+            _ => {}
+        }
+        let needed = parts(bits.min(2000), 8);
+        let input_length = match rng.below(12) {
+            0 => rng.below(needed + 1),
+            _ => needed + rng.below(3),
+        };
+        let place = match rng.below(16) {
+            0 => rng.number() as usize,
+            1 => 0,
+            _ => rng.below(20),
+        };
+        let out_length = match rng.below(12) {
+            0 => rng.below(needed + 20),
+            _ => place.min(50) + needed + rng.below(3),
+        };
+        Feed {
+            input: rng.bytes(input_length),
+            bits,
+            out: vec![rng.number() as u8; out_length],
+            place,
+        }
+    }
+}
+
+// From a session that has done all units but `left`.
+fn last_units(rng: &mut Rng) -> Outcome {
+    for left in 0..6 {
+        for units in 0..8 {
+            let key = rng.bytes(16);
+            let iv = rng.bytes(16);
+            let (_, mut theirs) =
+                reference::Session::open(Mode::Cfb, Direction::Decrypt, 8, &key, &iv);
+            let (_, mut ours) = open(Mode::Cfb, Direction::Decrypt, 8, &key, &iv);
+            theirs.units = u32::MAX - left;
+            ours.units = u32::MAX - left;
+            let input = rng.bytes(units);
+            let (mut expected, mut out) = ([7; 8], [7; 8]);
+            let number = theirs.feed(&input, 8 * units, &mut expected, 0);
+            let came = ours.feed(&input, 8 * units, &mut out, 0);
+            same(
+                || format!("{left} units left, {units} fed"),
+                (number, &theirs, &expected),
+                (came, &ours, &out),
+            )?;
+        }
+    }
+    Ok(())
+}
+
+fn no_mode(rng: &mut Rng) -> Outcome {
+    for mode in 5..=255 {
+        let key = rng.bytes(16);
+        let iv = rng.bytes(16);
+        let (number, session) = rattle::Session::open(mode, false, 128, &key, &iv);
+        equal(|| format!("mode {mode}"), (12, 0, 0, true), {
+            (number, session.rounds, session.units, session.closed)
+        })?;
+        let (_, mut session) = open(Mode::Ctr, Direction::Encrypt, 128, &key, &iv);
+        session.mode = mode;
+        let before = session.clone();
+        let mut out = [9; 16];
+        equal(
+            || format!("mode {mode}"),
+            12,
+            session.feed(&iv, 128, &mut out, 0),
+        )?;
+        equal(
+            || format!("mode {mode}"),
+            (&before, [9; 16]),
+            (&session, out),
+        )?;
+    }
+    Ok(())
+}
