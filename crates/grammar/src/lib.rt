@@ -6,5 +6,6 @@ mod scan;
 
 pub use form::Form;
 pub use form::parse;
+pub use hex::all_digits;
 pub use hex::decode;
 pub use hex::encode;

@@ -1,16 +1,17 @@
 // One block of a CBC ciphertext: its neighbour, and its plaintext.
+use modes::Session;
 ghost use mathlib.Core.Path.{_≡_};
 ghost use Rattle.bits.specs.Xor.{xorBytes};
 ghost use Rattle.aes.specs.Cipher.{Dec};
-ghost use Rattle.modes.specs.Questions.{ask, roomOk};
+ghost use Rattle.modes.specs.Questions.{ask};
 ghost use Rattle.inspect.specs.Single.{blockAt, blockOk, neighbourOf, neighbourQuestions, neighbourAnswer, SingleBy};
 
 // Question 11.
 fn block_ok(bytes: usize, j: usize) -> bool
     ensures { λ r. ⌜ r ≡ blockOk bytes j ⌝ }
 {
-    if bytes % 16 == 0 {
-        j < bytes / 16
+    if bytes % Session::BLOCK == 0 {
+        j < bytes / Session::BLOCK
     } else {
         false
     }
@@ -20,7 +21,7 @@ fn block_ok(bytes: usize, j: usize) -> bool
 fn neighbour_number(iv: &[u8], text: &[u8], j: usize) -> u8
     ensures { λ r. ⌜ r ≡ ask (neighbourQuestions (now (iv .entry)) (now (text .entry)) j) ⌝ }
 {
-    if iv.len() != 16 {
+    if iv.len() != Session::BLOCK {
         return 2;
     }
     if !block_ok(text.len(), j) {
@@ -40,20 +41,9 @@ pub fn neighbour<'a>(iv: &'a [u8], text: &'a [u8], j: usize) -> &'a [u8]
     if j == 0 {
         return iv;
     }
-    let start = (j - 1) * 16;
-    let end = start + 16;
+    let start = (j - 1) * Session::BLOCK;
+    let end = start + Session::BLOCK;
     &text[start..end]
-}
-
-// Question 8, for a block.
-fn room_ok(size: usize, place: usize) -> bool
-    ensures { λ r. ⌜ r ≡ roomOk size place 16 ⌝ }
-{
-    if place <= size {
-        16 <= size - place
-    } else {
-        false
-    }
 }
 
 fn plain_block<'a>(
@@ -66,7 +56,7 @@ fn plain_block<'a>(
     requires { ⌜ ask (neighbourQuestions (now iv) (now text) j) ≡ 0 ⌝ }
     ensures { λ r. ⌜ r ≡ xorBytes (Dec rounds (now (keys .entry)) (blockAt (now (text .entry)) j)) (neighbourOf (now (iv .entry)) (now (text .entry)) j) ⌝ }
 {
-    let start = j * 16;
+    let start = j * Session::BLOCK;
     let block = bits::window(&text[start..], 0, 128);
     let before = bits::window(neighbour(iv, text, j), 0, 128);
     bits::xor_block(aes::decrypt_block(rounds, keys, block), before)
@@ -91,7 +81,7 @@ pub fn decrypt_block<'a>(
     if number != 0 {
         return number;
     }
-    if !room_ok(out.len(), place) {
+    if !modes::room_ok(out.len(), place, Session::BLOCK) {
         return 8;
     }
     let keys = schedule.keys;

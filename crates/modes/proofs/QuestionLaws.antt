@@ -96,3 +96,7 @@ session-unit mode rounds n e = both-true (roundsOk rounds) (unitLengthOk mode n)
 pub bits-small : (limit bytes count : ℕ) → bitsOk limit bytes count ≡ true → count ≤ limit
 unfolding bitsOk
 bits-small limit bytes count e = leb-true count limit (both-true (leb count (8 * bytes)) (leb count limit) e .1)
+
+pub bits-there : (limit bytes count : ℕ) → bitsOk limit bytes count ≡ true → count ≤ 8 * bytes
+unfolding bitsOk
+bits-there limit bytes count e = leb-true count (8 * bytes) (both-true (leb count (8 * bytes)) (leb count limit) e .0)

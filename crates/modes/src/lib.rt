@@ -4,6 +4,8 @@ mod session;
 mod turn;
 mod work;
 
+pub use questions::bits_ok;
+pub use questions::room_ok;
 pub use session::Fed;
 pub use session::Opened;
 pub use session::Session;

@@ -1,4 +1,5 @@
 // Document 01, "Questions before work": each function answers one question, or gives the number of a call's first 'no'.
+use crate::session::Session;
 use rules::Mode;
 ghost use mathlib.Core.Path.{_≡_};
 ghost use Prim.Native.Nat.{_<_, _≤_};
@@ -13,10 +14,10 @@ pub fn iv_ok(mode: Mode, iv: &[u8]) -> bool
 {
     match mode {
         Mode::Ecb => iv.len() == 0,
-        Mode::Cbc => iv.len() == 16,
-        Mode::Cfb => iv.len() == 16,
-        Mode::Ofb => iv.len() == 16,
-        Mode::Ctr => iv.len() == 16,
+        Mode::Cbc => iv.len() == Session::BLOCK,
+        Mode::Cfb => iv.len() == Session::BLOCK,
+        Mode::Ofb => iv.len() == Session::BLOCK,
+        Mode::Ctr => iv.len() == Session::BLOCK,
     }
 }
 
@@ -111,7 +112,7 @@ pub fn feed_number(
     if closed {
         return 5;
     }
-    if !bits_ok(524288, bytes, bits) {
+    if !bits_ok(Session::MAX_BITS, bytes, bits) {
         return 6;
     }
     if !whole_units(mode, n, bits) {

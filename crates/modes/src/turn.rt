@@ -4,6 +4,8 @@ use rules::Mode;
 ghost use mathlib.Core.Path.{_≡_};
 ghost use mathlib.Core.Bool.{true};
 ghost use Prim.Native.Nat.{_≤_};
+ghost use lib.ListN.{take, drop};
+ghost use Rattle.bits.specs.Texts.{bits, packTo};
 ghost use Rattle.aes.specs.Cipher.{Enc, Dec};
 ghost use Rattle.modes.specs.Turns.{Turned, unitSizeOk};
 
@@ -123,8 +125,8 @@ fn ctr(
     }
 }
 
-// The unit's rule. In ECB and CBC a unit is a whole block.
-pub fn turn(
+// The mode's rule. In ECB and CBC a unit is a whole block.
+fn by_mode(
     mode: Mode,
     direction: Direction,
     rounds: usize,
@@ -143,4 +145,22 @@ pub fn turn(
         Mode::Ofb => ofb(direction, rounds, keys, register, unit, size),
         Mode::Ctr => ctr(direction, rounds, keys, register, unit, size),
     }
+}
+
+// Works the unit of `size` bits that begins `offset` bits into a part of the input.
+pub fn turn(
+    mode: Mode,
+    direction: Direction,
+    rounds: usize,
+    keys: &[u8; 240],
+    register: [u8; 16],
+    part: &[u8],
+    offset: usize,
+    size: usize,
+) -> Step
+    requires { ⌜ unitSizeOk mode size ≡ true ⌝ }
+    ensures { λ r. ⌜ Turned (Enc rounds (now (keys .entry))) (Dec rounds (now (keys .entry))) mode direction register (packTo 16 (take size (drop offset (bits (now (part .entry)))))) size (r .out) (r .register) ⌝ }
+{
+    let unit = bits::window(part, offset, size);
+    by_mode(mode, direction, rounds, keys, register, unit, size)
 }

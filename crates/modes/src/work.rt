@@ -14,7 +14,7 @@ fn smaller(a: usize, b: usize) -> usize
     if a < b { a } else { b }
 }
 
-// Works unit t: it stands in the part of the input that begins at the byte holding its first bit.
+// Works unit t, on the part of the input that begins at the byte holding its first bit.
 fn work_unit(
     mode: Mode,
     direction: Direction,
@@ -33,8 +33,16 @@ fn work_unit(
     let at = t * n;
     let size = smaller(n, bits - at);
     let a = at / 8;
-    let unit = bits::window(&input[a..], at % 8, size);
-    let step = turn::turn(mode, direction, rounds, keys, register, unit, size);
+    let step = turn::turn(
+        mode,
+        direction,
+        rounds,
+        keys,
+        register,
+        &input[a..],
+        at % 8,
+        size,
+    );
     let text = step.out;
     bits::put_bits(out, at, text, size);
     step.register

@@ -4,34 +4,18 @@ use mathlib.Core.Path.{_≡_}
 use mathlib.Core.Bool.{true, false}
 use native.Mathlib.Omega.{arith}
 use lib.Dec.{leb}
-use borrow.Author.Tests.{le-leb, lt-leb, eq-eqb, ne-eqb}
+use borrow.Author.Tests.{le-leb, eq-eqb, ne-eqb}
 use Rattle.rules.specs.Lengths.{both}
 use Rattle.modes.specs.Questions.{bitsOk, roomOk}
 use Rattle.modes.proofs.TestLaws.{both-false}
 use Rattle.padding.specs.Padding.{wholeBlocks}
 
 module _ (limit bytes count : ℕ) where
-  pub too-many : limit < count → bitsOk limit bytes count ≡ false
-  unfolding bitsOk
-  too-many h = rw (lt-leb count limit h) (both-false (leb count (8 * bytes)))
-
-  pub not-there : bytes < (count + 7) / 8 → bitsOk limit bytes count ≡ false
-  unfolding bitsOk both
-  not-there h = rw (lt-leb count (8 * bytes) (omega arith))
-
   pub taken : count ≤ limit → (count + 7) / 8 ≤ bytes → bitsOk limit bytes count ≡ true
   unfolding bitsOk both
   taken h there = rw (le-leb count (8 * bytes) (omega arith), le-leb count limit h)
 
 module _ (size place bytes : ℕ) where
-  pub place-outside : size < place → roomOk size place bytes ≡ false
-  unfolding roomOk both
-  place-outside h = rw (lt-leb place size h)
-
-  pub no-room : size - place < bytes → roomOk size place bytes ≡ false
-  unfolding roomOk
-  no-room h = rw (lt-leb bytes (size - place) h) (both-false (leb place size))
-
   pub room : place ≤ size → bytes ≤ size - place → roomOk size place bytes ≡ true
   unfolding roomOk both
   room h enough = rw (le-leb place size h, le-leb bytes (size - place) enough)

@@ -1,4 +1,5 @@
 // Pad: one 1 bit behind the text, then the fewest 0 bits that reach a multiple of 128.
+use modes::Session;
 ghost use mathlib.Core.Path.{_≡_};
 ghost use mathlib.Core.List.{_++_};
 ghost use Prim.Native.Nat.{_*_, _≤_};
@@ -25,16 +26,10 @@ fn padded_bits(bits: usize) -> usize
 fn pad_number(bytes: usize, bits: usize, size: usize, place: usize) -> u8
     ensures { λ r. ⌜ r ≡ ask (padQuestions bytes bits size place) ⌝ }
 {
-    if bits > 524287 {
+    if !modes::bits_ok(Session::MAX_BITS - 1, bytes, bits) {
         return 6;
     }
-    if bytes < (bits + 7) / 8 {
-        return 6;
-    }
-    if size < place {
-        return 8;
-    }
-    if size - place < padded_bits(bits) / 8 {
+    if !modes::room_ok(size, place, padded_bits(bits) / 8) {
         return 8;
     }
     0

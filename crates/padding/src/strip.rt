@@ -1,4 +1,5 @@
 // Unpad: from the end, pass 0 bits up to the first 1 bit.
+use modes::Session;
 ghost use mathlib.Core.Path.{_≡_};
 ghost use Prim.Native.Nat.{_*_, _≤_};
 ghost use lib.ListN.{length};
@@ -45,10 +46,7 @@ fn used_bits_of(s: &[u8], count: usize) -> usize
 pub fn unpad(input: &[u8], bits: usize) -> Unpadded
     ensures { λ r. ⌜ UnpaddedBy (now (input .entry)) bits r ⌝ }
 {
-    if bits > 524288 {
-        return Unpadded { number: 6, bits: 0 };
-    }
-    if input.len() < (bits + 7) / 8 {
+    if !modes::bits_ok(Session::MAX_BITS, input.len(), bits) {
         return Unpadded { number: 6, bits: 0 };
     }
     if bits == 0 {

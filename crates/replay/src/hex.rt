@@ -17,27 +17,6 @@ pub struct Short {
     pub bytes: [u8; 64],
 }
 
-fn is_digit(b: u8) -> bool {
-    if b <= b'9' {
-        b'0' <= b
-    } else if b <= b'f' {
-        b'a' <= b
-    } else {
-        false
-    }
-}
-
-fn all_digits(word: &[u8]) -> bool {
-    let mut i = 0;
-    while i < word.len() {
-        if !is_digit(word[i]) {
-            return false;
-        }
-        i += 1;
-    }
-    true
-}
-
 // Writes the bytes that the word spells to the front of `space`, and answers how many; `-` spells none. A word that is not
 // of this form, or spells more than `space` holds, gives a count above that of `space`.
 pub fn bytes(word: &[u8], space: &mut [u8]) -> usize {
@@ -54,7 +33,7 @@ pub fn bytes(word: &[u8], space: &mut [u8]) -> usize {
     if space.len() < count {
         return BAD;
     }
-    if !all_digits(word) {
+    if !grammar::all_digits(word) {
         return BAD;
     }
     grammar::decode(word, space);
@@ -69,7 +48,7 @@ fn all_pairs(word: &[u8]) -> bool {
     if word.len() % 2 != 0 {
         return false;
     }
-    all_digits(word)
+    grammar::all_digits(word)
 }
 
 // A key or an IV. Of more than 64 bytes the first 64 are taken: for their length, calls refuse both alike.
@@ -96,7 +75,7 @@ pub fn one_byte(word: &[u8]) -> Byte {
     if word.len() != 2 {
         return Byte::Bad;
     }
-    if !all_digits(word) {
+    if !grammar::all_digits(word) {
         return Byte::Bad;
     }
     grammar::decode(word, &mut value);

@@ -1,4 +1,5 @@
--- The window over the part of the input reads the unit, the turn works it, and its bits are put where they belong. Assumes nothing.
+-- The unit stands in the part of the input that is handed on, the turn works it, and its bits are put where they belong.
+-- Assumes nothing.
 use Prim.Native.Nat.{_*_, _/_, _%_, _-_}
 use mathlib.Core.Path.{_≡_, ap, _∙_}
 use native.Mathlib.Omega.{arith}
@@ -19,23 +20,20 @@ sub-smaller c = let p = c .before .before .pre in omega (arith, unit-inside (p .
 smaller-requires : tie.Need-smaller-requires
 smaller-requires c κs = search needs
 
-sub-window : tie.Need-sub-window
-sub-window c = let p = c .before .before .before .pre in omega (arith, unit-inside (p .0) (p .1), p .0 .within)
+sub-turn : tie.Need-sub-turn
+sub-turn c = let p = c .before .before .before .pre in omega (arith, unit-inside (p .0) (p .1), p .0 .within)
 
-part-window-start : tie.Need-part-window-start
-part-window-start c = let p = c .before .before .before .pre in omega (arith, unit-inside (p .0) (p .1), p .0 .within)
+part-turn-start : tie.Need-part-turn-start
+part-turn-start c = let p = c .before .before .before .pre in omega (arith, unit-inside (p .0) (p .1), p .0 .within)
 
-part-window-end : tie.Need-part-window-end
-part-window-end c = search needs
-
-window-requires : tie.Need-window-requires
-window-requires c κs = search needs
+part-turn-end : tie.Need-part-turn-end
+part-turn-end c = search needs
 
 turn-requires : tie.Need-turn-requires
-turn-requires c κs = let p = c .before .before .before .before .before .pre in ap (unitSizeOk _) (c .before .before .smaller .ensures) ∙ unit-size-ok (p .0) (p .1)
+turn-requires c κs = let p = c .before .before .before .before .pre in ap (unitSizeOk _) (c .before .smaller .ensures) ∙ unit-size-ok (p .0) (p .1)
 
 put-bits-requires : tie.Need-put-bits-requires
-put-bits-requires c κs = let s = c .before .before .before .before .before in let p = s .before .before .before .pre in omega (arith, unit-fits (p .0) (p .1), s .smaller .ensures)
+put-bits-requires c κs = let s = c .before .before .before .before in let p = s .before .before .before .pre in omega (arith, unit-fits (p .0) (p .1), s .smaller .ensures)
 
 same-length : tie.Need-same-length
 same-length c = search needs
@@ -43,13 +41,12 @@ same-length c = search needs
 returns : tie.Need-returns
 returns c =
     let turned = c .before .before .before .before .before .before in
-    let read = turned .before in
-    let small = read .before .before in
+    let small = turned .before .before in
     let s = small .before .before .before in
     let a = s .args in
     let at = a .t * a .n in
     unit-worked (s .pre .0) (s .pre .1) (a .direction) (a .register) (small .smaller .ensures)
-    (read .window .ensures ∙ ap (λ l. packTo 16 (take (small .smaller .result) (drop (at % 8) (bits l)))) (part-all (at / 8) (a .input .now))) (turned .turn .ensures)
+    (ap (λ l. packTo 16 (take (small .smaller .result) (drop (at % 8) (bits l)))) (part-all (at / 8) (a .input .now))) (turned .turn .ensures)
     (c .before .before .before .put-bits .ensures)
 
 pub work-unit-spec : {M : Type 1} → statement M
@@ -59,10 +56,9 @@ work-unit-spec =
     mul-at
     sub-smaller
     smaller-requires
-    sub-window
-    part-window-start
-    part-window-end
-    window-requires
+    sub-turn
+    part-turn-start
+    part-turn-end
     turn-requires
     put-bits-requires
     same-length
