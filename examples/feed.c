@@ -11,10 +11,10 @@ int main(void)
     uint8_t out[2];
     struct conguraha_session session;
     uint8_t number = conguraha_session_open(&session, CONGURAHA_CFB, false, 8, key, sizeof key, iv, sizeof iv);
-    for (size_t at = 0; number == 0 && at < sizeof text; at++)
+    for (size_t at = 0; number == CONGURAHA_OK && at < sizeof text; at++)
         number = conguraha_session_feed(&session, text + at, 1, 8, out, sizeof out, at);
     printf("%d", number);
-    if (number == 0)
+    if (number == CONGURAHA_OK)
         printf(" %02x%02x", out[0], out[1]);
     printf("\n");
     return 0;

@@ -1,6 +1,10 @@
 # Document 01 in Python, for the files `stdout` of the programs that run calls at their edges. It shares nothing with the crates:
 # AES is polynomial arithmetic on integers, a text is a string of bits, a session is a dictionary.
 
+# the largest feed in bits, and the most units of a session (questions 6 and 9)
+MAX_BITS = 524288
+MAX_UNITS = 4294967295
+
 # FIPS 197
 
 def times(a, b):
@@ -149,14 +153,14 @@ def feed(s, data, count, out, place):
         return 4, s, out
     if s['closed']:
         return 5, s, out
-    if count > min(8 * len(data), 524288):
+    if count > min(8 * len(data), MAX_BITS):
         return 6, s, out
     if s['mode'] in ('ECB', 'CBC', 'CFB') and count % n:
         return 7, s, out
     if not room(count, len(out), place):
         return 8, s, out
     new = (count + n - 1) // n
-    if s['units'] + new > 4294967295:
+    if s['units'] + new > MAX_UNITS:
         return 9, s, out
     text, r, parts = bits(data)[:count], s['r'], []
     for t in range(new):
@@ -168,7 +172,7 @@ def feed(s, data, count, out, place):
 # padding, one block
 
 def pad(data, count, out, place):
-    if count > min(8 * len(data), 524287):
+    if count > min(8 * len(data), MAX_BITS - 1):
         return 6, 0, out
     text = bits(data)[:count] + '1'
     text += '0' * (-len(text) % 128)
@@ -178,7 +182,7 @@ def pad(data, count, out, place):
 
 
 def unpad(data, count):
-    if count > min(8 * len(data), 524288):
+    if count > min(8 * len(data), MAX_BITS):
         return 6, 0
     if count == 0 or count % 128:
         return 7, 0

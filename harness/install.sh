@@ -1,7 +1,7 @@
 # shellcheck shell=bash
-# Sourced by test and bench: sees that a C compiler, rustc, python3 and the C libraries that are named (crypto, tomcrypt) are
-# there, and installs the Debian packages of those that are missing. Exits where that fails.
-needed_libraries=("$@")
+# Sourced by test and bench: sees that a C compiler, rustc, python3 and what is named (c++, the C libraries crypto and tomcrypt)
+# are there, and installs the Debian packages of those that are missing. Exits where that fails.
+needed=("$@")
 
 links() { # LIBRARY
     local folder status
@@ -12,8 +12,16 @@ links() { # LIBRARY
     return "$status"
 }
 
-package_of() { # LIBRARY
+present() { # NAME
     case $1 in
+        c++) command -v g++ >/dev/null ;;
+        *) links "$1" ;;
+    esac
+}
+
+package_of() { # NAME
+    case $1 in
+        c++) echo g++ ;;
         crypto) echo libssl-dev ;;
         tomcrypt) echo libtomcrypt-dev ;;
     esac
@@ -21,12 +29,12 @@ package_of() { # LIBRARY
 
 # Prints them, one to a line.
 missing_packages() {
-    local library
+    local name
     command -v cc >/dev/null || printf '%s\n' gcc libc6-dev
     rustc --version >/dev/null 2>&1 || echo rustc
     command -v python3 >/dev/null || echo python3
-    for library in "${needed_libraries[@]}"; do
-        links "$library" || package_of "$library"
+    for name in "${needed[@]}"; do
+        present "$name" || package_of "$name"
     done
 }
 

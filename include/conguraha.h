@@ -1,54 +1,113 @@
-/* The proved code from C: what `rt staticlib capi` writes to target/staticlib/libcapi.a. docs/PROMISES.md says what is proved
-   of each call. Every call is total. Each answers 0, or the number of the first question of document 01 that is answered no;
-   then it changes nothing. What a call writes may not overlap anything else that it is given. */
+/* AES in the modes ECB, CBC, CFB, OFB and CTR, from C and C++: the proved code of target/staticlib/libcapi.a, which
+   `rt staticlib capi` writes for x86-64. README.md has an example, docs/PROMISES.md says what is proved of each call.
+
+   Every call ends, and answers a number of enum conguraha_answer; CONGURAHA_OK is success. A refused call writes this:
+
+       conguraha_session_feed, conguraha_feed          nothing: session and output stay as they were
+       conguraha_session_open, conguraha_open          the refused session: CONGURAHA_ECB, encrypting, closed, and n, rounds,
+                                                       units and all bytes 0
+       conguraha_aes_expand                            0 rounds and 240 zero bytes
+       conguraha_aes_encrypt, conguraha_aes_decrypt    16 zero bytes
+       conguraha_aes_chain                             16 zero bytes; with a count of 0 nothing
+
+   What the caller sees to, since no call can check it:
+
+   - Behind a pointer is what the call says: as many bytes as the length that follows it, the size in its brackets, or one
+     value. Where that length is 0 the pointer may be NULL: nothing is read or written through it. No other pointer may.
+   - What a call may write (behind each pointer that is not const) overlaps nothing else that the call is given. So no text is
+     worked in place: input and output are two buffers.
+   - A bool holds 0 or 1. So a session is fed only after conguraha_session_open has been called for it, accepted or refused. (One
+     with all bytes 0 may be fed too, and is answered CONGURAHA_NOT_OPENED.)
+   - Calls share nothing, and threads may call at the same time. One session is for one thread at a time.
+   - A session holds its round keys. The library keeps no copy of them, and wipes none. */
 #ifndef CONGURAHA_H
 #define CONGURAHA_H
 #include <stdbool.h>
 #include <stddef.h>
 #include <stdint.h>
+#include <string.h>
 
 #ifdef __cplusplus
 extern "C" {
 #endif
 
+#define CONGURAHA_BLOCK 16              /* bytes of a block, and of an IV */
+#define CONGURAHA_KEYS 240              /* bytes of the round keys */
+#define CONGURAHA_MAX_BITS 524288       /* bits of the largest feed: 65,536 bytes */
+#define CONGURAHA_MAX_UNITS 4294967295u /* units that one session works; then open another one, under a fresh IV */
+
 enum conguraha_mode { CONGURAHA_ECB, CONGURAHA_CBC, CONGURAHA_CFB, CONGURAHA_OFB, CONGURAHA_CTR };
 
-/* The calls as the library has them, with a session's fields apart. A mode above 4 is answered 12. */
-uint8_t conguraha_open(uint8_t mode, bool decrypting, size_t n, const uint8_t *key, size_t key_length, const uint8_t *iv,
-                       size_t iv_length, size_t *rounds, uint8_t keys[240], uint8_t reg[16], uint32_t *units, bool *closed);
-uint8_t conguraha_feed(uint8_t mode, bool decrypting, size_t n, size_t rounds, const uint8_t keys[240], uint8_t reg[16],
-                       uint32_t *units, bool *closed, const uint8_t *input, size_t input_length, size_t bits, uint8_t *out,
-                       size_t out_length, size_t place);
+/* A call asks its questions in the order of these numbers, CONGURAHA_NO_MODE before all others, and answers the first that
+   fails. 10 and 11 belong to questions that no call of this file asks. */
+enum conguraha_answer {
+    CONGURAHA_OK = 0,
+    /* of keys and openings */
+    CONGURAHA_KEY_LENGTH = 1,  /* the key is not 16, 24 or 32 bytes long */
+    CONGURAHA_IV_LENGTH = 2,   /* the IV is not 16 bytes long; in ECB, it has bytes */
+    CONGURAHA_UNIT_LENGTH = 3, /* n is not 1 to 128 in CFB, or not 128 in another mode */
+    /* of feeds */
+    CONGURAHA_NOT_OPENED = 4, /* the session's rounds and n are none that an opening gives: its opening was refused */
+    CONGURAHA_CLOSED = 5,     /* the session is closed: a feed in OFB or CTR was not whole blocks */
+    CONGURAHA_BITS = 6,       /* more bits than the input has, or than CONGURAHA_MAX_BITS */
+    CONGURAHA_PART_UNIT = 7,  /* the bits are not whole units, in ECB, CBC or CFB */
+    CONGURAHA_ROOM = 8,       /* `place` is behind the end of the output, or too few bytes of it are left from there */
+    CONGURAHA_UNIT_LIMIT = 9, /* the session would have worked more than CONGURAHA_MAX_UNITS units */
+    /* of openings and feeds */
+    CONGURAHA_NO_MODE = 12 /* the mode is none of enum conguraha_mode */
+};
 
-/* Key expansion, and one block under a key. A refused key gives zero bytes. */
-uint8_t conguraha_aes_expand(const uint8_t *key, size_t key_length, size_t *rounds, uint8_t keys[240]);
-uint8_t conguraha_aes_encrypt(const uint8_t *key, size_t key_length, const uint8_t block[16], uint8_t out[16]);
-uint8_t conguraha_aes_decrypt(const uint8_t *key, size_t key_length, const uint8_t block[16], uint8_t out[16]);
-
-/* A session in one piece. `n` is the unit's bits: the segment length in CFB, 128 elsewhere. */
+/* A session. Its fields are read freely, and written by the calls alone. A copy is a session of its own in the same state; to
+   encrypt with both is to use one IV, or one keystream, twice. */
 struct conguraha_session {
-    uint8_t mode;
+    size_t mode;
     bool decrypting;
-    size_t n;
+    size_t n; /* bits of a unit: the segment length in CFB, 128 in the other modes */
     size_t rounds;
-    uint8_t keys[240];
-    uint8_t reg[16];
-    uint32_t units;
+    uint8_t keys[CONGURAHA_KEYS];
+    uint8_t reg[CONGURAHA_BLOCK]; /* the register: the IV at first */
+    uint32_t units;               /* worked so far */
     bool closed;
 };
 
-/* The IV has no bytes in ECB. A refused opening leaves a session that refuses every feed. */
-static inline uint8_t conguraha_session_open(struct conguraha_session *s, enum conguraha_mode mode, bool decrypting, size_t n,
+/* Opens a session; `s` need hold nothing before. The IV has 16 bytes, none in ECB, and is never used twice to encrypt under one
+   key (SP 800-38A, appendices B and C, says how to choose it). */
+static inline uint8_t conguraha_session_open(struct conguraha_session *s, size_t mode, bool decrypting, size_t n,
+                                             const uint8_t *key, size_t key_length, const uint8_t *iv, size_t iv_length);
+
+/* Feeds the first `bits` bits of the input and writes what they become from out[place] on: as many bits, from a byte's highest
+   on; the last byte's spare bits are 0. How a text is cut into feeds changes nothing in what is written, as long as each cut is
+   between units. In OFB and CTR the last feed need not be whole blocks; it closes the session, and every later feed is
+   answered CONGURAHA_CLOSED. A feed of 0 bits changes nothing. */
+static inline uint8_t conguraha_session_feed(struct conguraha_session *s, const uint8_t *input, size_t input_length, size_t bits,
+                                             uint8_t *out, size_t out_length, size_t place);
+
+/* One block under a key, and the key's round keys. These answer CONGURAHA_OK or CONGURAHA_KEY_LENGTH. */
+uint8_t conguraha_aes_encrypt(const uint8_t *key, size_t key_length, const uint8_t block[CONGURAHA_BLOCK],
+                              uint8_t out[CONGURAHA_BLOCK]);
+uint8_t conguraha_aes_decrypt(const uint8_t *key, size_t key_length, const uint8_t block[CONGURAHA_BLOCK],
+                              uint8_t out[CONGURAHA_BLOCK]);
+uint8_t conguraha_aes_expand(const uint8_t *key, size_t key_length, size_t *rounds, uint8_t keys[CONGURAHA_KEYS]);
+
+/* For benchmarks: puts the block through the cipher `count` times, in place, under a key that is expanded once. */
+uint8_t conguraha_aes_chain(const uint8_t *key, size_t key_length, bool decrypting, uint8_t block[CONGURAHA_BLOCK], size_t count);
+
+/* Sessions as the library has them, with the fields apart: an opening writes them all, a feed moves the last three. */
+uint8_t conguraha_open(size_t mode, bool decrypting, size_t n, const uint8_t *key, size_t key_length, const uint8_t *iv,
+                       size_t iv_length, size_t *held_mode, bool *held_decrypting, size_t *held_n, size_t *rounds,
+                       uint8_t keys[CONGURAHA_KEYS], uint8_t reg[CONGURAHA_BLOCK], uint32_t *units, bool *closed);
+uint8_t conguraha_feed(size_t mode, bool decrypting, size_t n, size_t rounds, const uint8_t keys[CONGURAHA_KEYS],
+                       uint8_t reg[CONGURAHA_BLOCK], uint32_t *units, bool *closed, const uint8_t *input, size_t input_length,
+                       size_t bits, uint8_t *out, size_t out_length, size_t place);
+
+static inline uint8_t conguraha_session_open(struct conguraha_session *s, size_t mode, bool decrypting, size_t n,
                                              const uint8_t *key, size_t key_length, const uint8_t *iv, size_t iv_length)
 {
-    s->mode = (uint8_t)mode;
-    s->decrypting = decrypting;
-    s->n = n;
-    return conguraha_open(s->mode, decrypting, n, key, key_length, iv, iv_length, &s->rounds, s->keys, s->reg, &s->units,
-                          &s->closed);
+    memset(s, 0, sizeof *s); /* a bool is lent with a value */
+    return conguraha_open(mode, decrypting, n, key, key_length, iv, iv_length, &s->mode, &s->decrypting, &s->n, &s->rounds,
+                          s->keys, s->reg, &s->units, &s->closed);
 }
 
-/* Feeds the first `bits` bits of the input and writes what they become from out[place] on. */
 static inline uint8_t conguraha_session_feed(struct conguraha_session *s, const uint8_t *input, size_t input_length, size_t bits,
                                              uint8_t *out, size_t out_length, size_t place)
 {

@@ -27,7 +27,6 @@ first = list(bytes.fromhex("2b7e151628aed2a6abf7158809cf4f3c"))
 second = list(bytes.fromhex("6bc1bee22e409f96e93d7e117393172a"))
 short = [0xA5, 0x0F]
 
-print("".join(str(b) for b in bits(short) + [0] * 4))
 for n in [0, 1, 3, 7, 8, 9, 127, 128, 200]:
     for s in (first, short):
         for offset in [*range(10), 2**64 - 1]:

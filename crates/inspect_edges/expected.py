@@ -3,7 +3,7 @@ import os
 import sys
 
 sys.path.insert(0, os.path.join(os.path.dirname(os.path.abspath(__file__)), '..', '..', 'harness'))
-from document01 import neighbour, pad, single_block, unpad
+from document01 import MAX_BITS, neighbour, pad, single_block, unpad
 
 LARGEST = 2 ** 64 - 1
 
@@ -28,10 +28,11 @@ padded('1 bit of none', b'', 1, 0)
 padded('129 bits of 16 bytes', INPUT[:16], 129, 0)
 padded('129 bits of 16 bytes, no room', INPUT[:16], 129, 40)
 padded('the largest count', INPUT[:16], LARGEST, 0)
-for count in (524287, 524288):
-    for place, name in ((4, ''), (5, ', no room')):
-        number, length, out = pad(b'\xfe' * 65537, count, b'\xee' * 65540, place)
-        print('pad', f'{count} bits' + name, number, length, out[:6].hex(), out[65532:].hex())
+BYTES = MAX_BITS // 8
+for name, count in (('the largest text', MAX_BITS - 1), ('a bit more', MAX_BITS)):
+    for place, room in ((4, ''), (5, ', no room')):
+        number, length, out = pad(b'\xfe' * (BYTES + 1), count, b'\xee' * (BYTES + 4), place)
+        print('pad', name + room, number, length, out[:6].hex(), out[-8:].hex())
 
 
 def unpadded(name, data, count):
@@ -59,10 +60,11 @@ unpadded('384 bits of 32 bytes', ONES, 384)
 unpadded('128 bits of none', b'', 128)
 unpadded('0 bits of none', b'', 0)
 unpadded('the largest count', ONES, LARGEST)
-unpadded('524288 bits, all 0', bytes(65552), 524288)
-unpadded('524288 bits, all 1', b'\xff' * 65552, 524288)
-unpadded('524289 bits', b'\xff' * 65552, 524289)
-unpadded('524416 bits', b'\xff' * 65552, 524416)
+MORE_ONES = b'\xff' * (BYTES + 16)
+unpadded('the largest text, all 0', bytes(BYTES + 16), MAX_BITS)
+unpadded('the largest text, all 1', MORE_ONES, MAX_BITS)
+unpadded('a bit more', MORE_ONES, MAX_BITS + 1)
+unpadded('a block more', MORE_ONES, MAX_BITS + 128)
 
 # ---- lines: neighbour and single block
 

@@ -7,7 +7,7 @@ import re
 import sys
 
 sys.path.insert(0, os.path.join(os.path.dirname(os.path.abspath(__file__)), '..', '..', 'harness'))
-from document01 import REFUSED, feed, neighbour, opening, pad, single_block, unpad
+from document01 import MAX_BITS, REFUSED, feed, neighbour, opening, pad, single_block, unpad
 
 
 # the lines
@@ -49,8 +49,9 @@ def show(data):
     return data.hex() or '-'
 
 
-LONGEST = 65600
-LINE = 133120
+# the bytes of INPUT, TEXT and OUTLEN, and of a line
+LONGEST = MAX_BITS // 8 + 64
+LINE = 2 * LONGEST + 1920
 
 
 class Replay:
@@ -145,7 +146,7 @@ def question_lines():
     yield from ('open CFB 0 D - -', f'open CFB 0 D {KEY} {IV}', f'open CFB 129 D {KEY} {IV}', f'open ECB 128 D {KEY} {IV}')
     yield from (f'open CFB 18446744073709551615 D {KEY} {IV}', f'open CFB 0008 D {KEY} {IV}', 'feed 9 2 0 00 6bc1')
     yield from ('feed 17 2 0 00 6bc1', 'feed 16 2 1 00 6bc1', 'feed 16 2 3 00 6bc1', 'feed 0 2 2 00 6bc1', 'feed 0 2 3 00 -')
-    yield from ('feed 18446744073709551615 2 18446744073709551615 00 6bc1', 'feed 524296 2 0 00 6bc1')
+    yield from ('feed 18446744073709551615 2 18446744073709551615 00 6bc1', f'feed {MAX_BITS + 8} 2 0 00 6bc1')
     yield from ('feed 16 2 18446744073709551615 00 6bc1', f'open CTR 128 E {KEY} {IV}', 'feed 3 1 0 ff ff', 'feed 0 1 0 ff ff')
 
 
@@ -153,7 +154,7 @@ def text_lines():
     for count in (0, 1, 7, 8, 127, 128, 129, 255, 256):
         yield f'pad {count} 49 1 ee {TEXT}'
     yield from (f'pad 257 49 1 ee {TEXT}', 'pad 0 16 0 00 -', 'pad 0 15 0 ee -', 'pad 0 16 1 ee -', 'pad 0 0 0 ee -')
-    yield from ('pad 0 0 1 ee -', 'pad 524288 0 0 ee -', 'pad 18446744073709551615 0 18446744073709551615 ee -')
+    yield from ('pad 0 0 1 ee -', f'pad {MAX_BITS} 0 0 ee -', 'pad 18446744073709551615 0 18446744073709551615 ee -')
     for tail in ('00', '80', '01', '10'):
         yield f'unpad 128 {IV[:30]}{tail}'
         yield f'unpad 256 {IV[:30]}{tail}{"00" * 16}'
@@ -200,9 +201,10 @@ def long_lines():
         yield f'block {"00" * count} {IV} {IV} 0 0 0 00'
         yield f'block {KEY} {"00" * count} {IV} 0 0 0 00'
     yield f'open CTR 128 D {KEY} {IV}'
-    yield f'feed 9 65600 65598 5a {"ff" * 65600}'
-    yield from ('feed 9 65601 0 5a ff', 'pad 9 65601 0 5a ffff', f'block {KEY} {IV} {IV} 0 65601 0 00')
-    yield from (f'feed 9 2 0 5a {"ff" * 65601}', f'block {KEY} {IV} {"ff" * 65601} 0 16 0 00', 'feed 0 00065600 65600 00 -')
+    most, more = LONGEST, LONGEST + 1
+    yield f'feed 9 {most} {most - 2} 5a {"ff" * most}'
+    yield from (f'feed 9 {more} 0 5a ff', f'pad 9 {more} 0 5a ffff', f'block {KEY} {IV} {IV} 0 {more} 0 00')
+    yield from (f'feed 9 2 0 5a {"ff" * more}', f'block {KEY} {IV} {"ff" * more} 0 16 0 00', f'feed 0 000{most} {most} 00 -')
     for length in (LINE, LINE + 1):
         yield f'neighbour {IV} {IV} '.ljust(length, '0')
 

@@ -3,7 +3,7 @@ import os
 import sys
 
 sys.path.insert(0, os.path.join(os.path.dirname(os.path.abspath(__file__)), '..', '..', 'harness'))
-from document01 import feed, opening
+from document01 import MAX_BITS, MAX_UNITS, feed, opening
 
 KEY = bytes.fromhex('2b7e151628aed2a6abf7158809cf4f3c')
 IV = bytes(range(16))
@@ -50,13 +50,15 @@ fed('a byte at the last place', ctr, 8, 39)
 fed('two bytes there', ctr, 9, 39)
 fed('more bits than input', ctr, 257, 0)
 
-late = dict(opened('CFB', 'E', 8), units=4294967294)
+late = dict(opened('CFB', 'E', 8), units=MAX_UNITS - 1)
 fed('one unit left, two fed', late, 16, 0)
 last = fed('one unit left, one fed', late, 8, 0)
 fed('none left, one fed', last, 8, 0)
 fed('none left, none fed', last, 0, 0)
 fed("a refused opening's", opened('CFB', 'E', 0), 8, 0)
 
-answer, _, out = feed(ctr, bytes(65537), 524288, bytes(65537), 0)
-print('524288 bits', answer, out[65520:].hex())
-print('524289 bits', feed(ctr, bytes(65537), 524289, bytes(65537), 0)[0])
+# a byte more than those of the largest feed
+ZEROS = bytes(MAX_BITS // 8 + 1)
+for name, count in (('the largest feed', MAX_BITS), ('a bit more', MAX_BITS + 1)):
+    answer, _, out = feed(ctr, ZEROS, count, ZEROS, 0)
+    print(name, answer, out[-17:].hex())

@@ -1,5 +1,5 @@
-// Measures the proved code beside OpenSSL's and libtomcrypt's. A line for each row: its name, the unit (ns for a block, or
-// MB/s), then the figures of Rattle, OpenSSL and libtomcrypt (`-` where it has no such mode), parted by tabs. The script
+// Measures the proved code beside OpenSSL's and libtomcrypt's. A line for each row: its name, the unit (ns for a block or a
+// feed, or MB/s), then the figures of Rattle, OpenSSL and libtomcrypt (`-` where there is none), parted by tabs. The script
 // bench runs this with OpenSSL's AES instructions on and off.
 #![allow(dead_code)]
 mod openssl;
@@ -13,7 +13,7 @@ const CHAIN: usize = 2_000;
 const TEXT: usize = 16 * 1024;
 
 // A mode's name, its number and n for Rattle, and its name for the others.
-type Mode = (&'static str, u8, usize, &'static str);
+type Mode = (&'static str, usize, usize, &'static str);
 
 const MODES: [Mode; 7] = [
     ("ECB", 0, 128, "ecb"),
@@ -33,12 +33,21 @@ fn main() {
     }
     for mode in MODES {
         for direction in [Direction::Encrypt, Direction::Decrypt] {
-            feeds(mode, direction, TEXT);
+            let name = format!("{} {}", mode.0, verb(direction));
+            speed(&name, feeds(mode, direction, TEXT));
         }
     }
     // the same text in small feeds: what a cut costs
     for mode in [MODES[3], MODES[6]] {
-        feeds(mode, Direction::Decrypt, 64);
+        let name = format!("{}, 64 B feeds", mode.0);
+        speed(&name, feeds(mode, Direction::Decrypt, 64));
+    }
+    for direction in [Direction::Encrypt, Direction::Decrypt] {
+        let name = format!("CFB-8 {}, a feed of 1 byte", verb(direction));
+        nanoseconds(&name, feeds(MODES[3], direction, 1), TEXT);
+    }
+    for direction in [Direction::Encrypt, Direction::Decrypt] {
+        feeds_of_a_block(direction);
     }
 }
 
@@ -81,15 +90,25 @@ fn block(length: usize, direction: Direction) {
         "the chains end in different blocks"
     );
     let name = format!("AES-{} {}", 8 * length, verb(direction));
-    row(
-        &name,
-        "ns",
-        best.map(|seconds| Some(seconds * 1e9 / CHAIN as f64)),
-    );
+    nanoseconds(&name, best.map(Some), CHAIN);
 }
 
-// 16 KiB in feeds of `size` bytes under a key of 16 bytes. Each side keeps its session, and the texts are compared.
-fn feeds((name, mode, n, theirs): Mode, direction: Direction, size: usize) {
+// A feed of one block in CBC, and what of it is not the block's: a text in one feed has all its blocks and that once, in
+// feeds of a block once for each block.
+fn feeds_of_a_block(direction: Direction) {
+    let blocks = TEXT / 16;
+    let whole = feeds(MODES[1], direction, TEXT);
+    let cut = feeds(MODES[1], direction, 16);
+    let name = format!("CBC {}, a feed of 1 block", verb(direction));
+    nanoseconds(&name, cut, blocks);
+    let beyond = cut[0].zip(whole[0]).map(|(cut, whole)| cut - whole);
+    let name = format!("CBC {}, a feed beyond its blocks", verb(direction));
+    nanoseconds(&name, [beyond, None, None], blocks - 1);
+}
+
+// The seconds of 16 KiB in feeds of `size` bytes under a key of 16 bytes. Each side keeps its session, and the texts are
+// compared.
+fn feeds((name, mode, n, theirs): Mode, direction: Direction, size: usize) -> [Option<f64>; 3] {
     let key: Vec<u8> = (0..16).collect();
     let iv: Vec<u8> = if mode == 0 {
         vec![]
@@ -133,20 +152,7 @@ fn feeds((name, mode, n, theirs): Mode, direction: Direction, size: usize) {
         !has_tomcrypt || texts[0] == texts[2],
         "Rattle and libtomcrypt differ in {name}"
     );
-    let speed = |seconds: f64| TEXT as f64 / seconds / 1e6;
-    row(
-        &if size == TEXT {
-            format!("{name} {}", verb(direction))
-        } else {
-            format!("{name}, {size} B feeds")
-        },
-        "MB/s",
-        [
-            Some(speed(best[0])),
-            Some(speed(best[1])),
-            has_tomcrypt.then(|| speed(best[2])),
-        ],
-    );
+    [Some(best[0]), Some(best[1]), has_tomcrypt.then(|| best[2])]
 }
 
 // The seconds of the fastest turn of each of three jobs. The turns alternate, so that all meet the same machine.
@@ -160,6 +166,18 @@ fn fastest(turns: usize, mut jobs: [&mut dyn FnMut(); 3]) -> [f64; 3] {
         }
     }
     best
+}
+
+// A row for seconds in which `count` blocks or feeds were worked.
+fn nanoseconds(name: &str, seconds: [Option<f64>; 3], count: usize) {
+    let each = |seconds: f64| seconds * 1e9 / count as f64;
+    row(name, "ns", seconds.map(|s| s.map(each)));
+}
+
+// A row for seconds in which 16 KiB were worked.
+fn speed(name: &str, seconds: [Option<f64>; 3]) {
+    let rate = |seconds: f64| TEXT as f64 / seconds / 1e6;
+    row(name, "MB/s", seconds.map(|s| s.map(rate)));
 }
 
 fn row(name: &str, unit: &str, figures: [Option<f64>; 3]) {

@@ -1,14 +1,20 @@
 // A program as a process: standard input in, standard output back.
 use std::io::{Read, Write};
-use std::process::{Command, Stdio};
+use std::process::{Child, ChildStdin, Command, Stdio};
+use std::sync::mpsc::{channel, Receiver};
+use std::time::Duration;
 
-// What the program at this path writes. It may stop reading before the input's end; its exit status must be 0.
-pub fn run(path: &str, input: &[u8]) -> Result<Vec<u8>, String> {
-    let mut child = Command::new(path)
+fn start(path: &str) -> Result<Child, String> {
+    Command::new(path)
         .stdin(Stdio::piped())
         .stdout(Stdio::piped())
         .spawn()
-        .map_err(|why| format!("{path}: {why}"))?;
+        .map_err(|why| format!("{path}: {why}"))
+}
+
+// What the program at this path writes. It may stop reading before the input's end; its exit status must be 0.
+pub fn run(path: &str, input: &[u8]) -> Result<Vec<u8>, String> {
+    let mut child = start(path)?;
     let mut stdin = child.stdin.take().unwrap();
     let mut stdout = child.stdout.take().unwrap();
     let mut output = vec![];
@@ -23,5 +29,55 @@ pub fn run(path: &str, input: &[u8]) -> Result<Vec<u8>, String> {
         Ok(output)
     } else {
         Err(format!("{path}: {status}"))
+    }
+}
+
+// A program that is written to piece by piece, and whose standard input stays open until the end.
+pub struct Held {
+    child: Child,
+    stdin: Option<ChildStdin>,
+    output: Receiver<Vec<u8>>,
+}
+
+impl Held {
+    pub fn start(path: &str) -> Result<Held, String> {
+        let mut child = start(path)?;
+        let stdin = child.stdin.take();
+        let mut stdout = child.stdout.take().unwrap();
+        let (sender, output) = channel();
+        std::thread::spawn(move || {
+            let mut all = vec![];
+            if stdout.read_to_end(&mut all).is_ok() {
+                let _ = sender.send(all);
+            }
+        });
+        Ok(Held {
+            child,
+            stdin,
+            output,
+        })
+    }
+
+    pub fn write(&mut self, piece: &[u8]) {
+        if let Some(stdin) = &mut self.stdin {
+            // a broken pipe: the program has read what it needs
+            let _ = stdin.write_all(piece);
+        }
+    }
+
+    pub fn end_input(&mut self) {
+        self.stdin = None;
+    }
+
+    // All that the program wrote, where it comes to its end within this time.
+    pub fn written(&mut self, within: Duration) -> Option<Vec<u8>> {
+        self.output.recv_timeout(within).ok()
+    }
+}
+
+impl Drop for Held {
+    fn drop(&mut self) {
+        let _ = self.child.kill();
+        let _ = self.child.wait();
     }
 }

@@ -28,13 +28,16 @@ extern "C" {
         count: usize,
     ) -> u8;
     fn conguraha_open(
-        mode: u8,
+        mode: usize,
         decrypting: bool,
         n: usize,
         key: *const u8,
         key_length: usize,
         iv: *const u8,
         iv_length: usize,
+        held_mode: *mut usize,
+        held_decrypting: *mut bool,
+        held_n: *mut usize,
         rounds: *mut usize,
         keys: *mut u8,
         register: *mut u8,
@@ -42,7 +45,7 @@ extern "C" {
         closed: *mut bool,
     ) -> u8;
     fn conguraha_feed(
-        mode: u8,
+        mode: usize,
         decrypting: bool,
         n: usize,
         rounds: usize,
@@ -109,7 +112,7 @@ pub fn chain(key: &[u8], decrypting: bool, block: &[u8; 16], count: usize) -> (u
 // A session, with its fields where the caller holds them.
 #[derive(Clone, Debug, PartialEq)]
 pub struct Session {
-    pub mode: u8,
+    pub mode: usize,
     pub decrypting: bool,
     pub n: usize,
     pub rounds: usize,
@@ -121,11 +124,11 @@ pub struct Session {
 
 impl Session {
     // The number, and what the opening gave. The mode is 0 for ECB, then CBC, CFB, OFB and CTR.
-    pub fn open(mode: u8, decrypting: bool, n: usize, key: &[u8], iv: &[u8]) -> (u8, Session) {
+    pub fn open(mode: usize, decrypting: bool, n: usize, key: &[u8], iv: &[u8]) -> (u8, Session) {
         let mut session = Session {
-            mode,
-            decrypting,
-            n,
+            mode: usize::MAX,
+            decrypting: !decrypting,
+            n: usize::MAX,
             rounds: usize::MAX,
             keys: [FILL; 240],
             register: [FILL; 16],
@@ -141,6 +144,9 @@ impl Session {
                 key.len(),
                 iv.as_ptr(),
                 iv.len(),
+                &mut session.mode,
+                &mut session.decrypting,
+                &mut session.n,
                 &mut session.rounds,
                 session.keys.as_mut_ptr(),
                 session.register.as_mut_ptr(),

@@ -2,7 +2,9 @@
 // vector of bits, and a unit is worked as the rules say it, with no thought of speed.
 use crate::openssl::{Direction, Key};
 
+// The largest feed in bits, and the most units of a session (questions 6 and 9).
 pub const MAX_BITS: usize = 524_288;
+pub const MAX_UNITS: u32 = 4_294_967_295;
 
 #[derive(Clone, Copy, Debug, PartialEq)]
 pub enum Mode {
@@ -140,7 +142,7 @@ impl Session {
         if place > size || parts(count, 8) > size - place {
             return 8;
         }
-        if self.units as u64 + parts(count, self.n) as u64 > 4_294_967_295 {
+        if self.units as u64 + parts(count, self.n) as u64 > MAX_UNITS as u64 {
             return 9;
         }
         0

@@ -2,10 +2,14 @@
 // reference; what demand 3 says of a loss and of damage is then asked of the program's own texts.
 use crate::openssl::Direction;
 use crate::process;
-use crate::reference::{self, bits, bytes, parts, Mode, Session, MODES};
+use crate::reference::{self, bits, bytes, parts, Mode, Session, MAX_BITS, MODES};
 use crate::report::{equal, hex, Outcome, Report};
 use crate::rng::Rng;
 use crate::sessions::Feed;
+
+// The bytes that INPUT, TEXT and OUTLEN have at most, and those of the longest line.
+const MAX_BYTES: usize = MAX_BITS / 8 + 64;
+const MAX_LINE: usize = 2 * MAX_BYTES + 1920;
 
 const LISTS: usize = 600;
 const BATCHES: usize = 5;
@@ -452,7 +456,7 @@ fn comparisons(rng: &mut Rng) -> Outcome {
 }
 
 fn bad_lines(rng: &mut Rng) -> Outcome {
-    let long = "0".repeat(140_000);
+    let long = "0".repeat(MAX_LINE);
     let bad: Vec<String> = [
         "",
         " ",
@@ -477,7 +481,6 @@ fn bad_lines(rng: &mut Rng) -> Outcome {
         "feed 8 1 0 0 00",
         "feed 8 1 0 000 00",
         "feed 8 1 0 - 00",
-        "feed 8 65601 0 00 00",
         "feed 8 18446744073709551616 0 00 00",
         "feed x 1 0 00 00",
         "feed 8 1 0 00 0",
@@ -490,7 +493,6 @@ fn bad_lines(rng: &mut Rng) -> Outcome {
         "neighbour - -",
         "neighbour - - x",
         "block - - - 0 0 0",
-        "block - - - 0 65601 0 00",
         "keep it",
         "alike ",
         "kept",
@@ -500,6 +502,8 @@ fn bad_lines(rng: &mut Rng) -> Outcome {
     .iter()
     .map(|line| line.to_string())
     .chain([
+        format!("feed 8 {} 0 00 00", MAX_BYTES + 1),
+        format!("block - - - 0 {} 0 00", MAX_BYTES + 1),
         format!("feed 8 1 0 00 {long}"),
         format!("unpad 8 {long}"),
         format!("neighbour - {long} 0"),
@@ -524,12 +528,12 @@ fn largest(rng: &mut Rng) -> Outcome {
     for mode in MODES {
         let (key, iv) = (any_key(rng), iv_of(rng, mode));
         script.open(mode, Direction::Decrypt, 128, &key, &iv);
-        let input = rng.bytes(65_600);
-        for bits in [524_288, 524_289, 524_416] {
+        let input = rng.bytes(MAX_BYTES);
+        for bits in [MAX_BITS, MAX_BITS + 1, MAX_BITS + 128] {
             script.feed(&Feed {
                 input: input.clone(),
                 bits,
-                out: vec![0x5a; 65_600],
+                out: vec![0x5a; MAX_BYTES],
                 place: 3,
             });
         }

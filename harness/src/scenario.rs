@@ -5,7 +5,7 @@ use crate::reference::{bits, bytes, parts};
 use crate::report::{equal, Outcome, Report};
 use crate::rng::Rng;
 
-const CFB: u8 = 2;
+const CFB: usize = 2;
 const SEGMENTS: usize = 400;
 const LOST: usize = 120;
 

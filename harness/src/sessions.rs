@@ -1,8 +1,7 @@
 // Sessions through the static library: against OpenSSL's modes, and against the reference for what OpenSSL does not have.
 use crate::openssl::{Cipher, Direction};
-use crate::process;
 use crate::rattle;
-use crate::reference::{self, parts, Mode, MODES};
+use crate::reference::{self, parts, Mode, MAX_UNITS, MODES};
 use crate::report::{equal, hex, Outcome, Report};
 use crate::rng::Rng;
 
@@ -51,13 +50,12 @@ pub fn run(report: &mut Report) {
             |rng| as_reference(rng, mode),
         );
     }
-    report.test("the example in C prints document 01's answer", |_| {
-        let came = process::run("target/harness/feed", &[])?;
-        equal(|| "examples/feed.c".to_string(), b"0 3b79\n".to_vec(), came)
-    });
-    report.test("the count of units ends at 4294967295", last_units);
     report.test(
-        "a number that is no mode is answered 12 and changes nothing",
+        &format!("the count of units ends at {MAX_UNITS}"),
+        last_units,
+    );
+    report.test(
+        "a number that is no mode is answered 12: opened the refused session, fed nothing changed",
         no_mode,
     );
 }
@@ -73,7 +71,7 @@ fn open(
     key: &[u8],
     iv: &[u8],
 ) -> (u8, rattle::Session) {
-    rattle::Session::open(mode as u8, direction == Direction::Decrypt, n, key, iv)
+    rattle::Session::open(mode as usize, direction == Direction::Decrypt, n, key, iv)
 }
 
 // Feeds a text of whole bytes in parts that end at a unit and a byte, and gives what was written.
@@ -148,6 +146,12 @@ fn same(
 ) -> Outcome {
     let (number, session, out) = expected;
     equal(&input, number, came.0)?;
+    let decrypting = session.direction == Direction::Decrypt;
+    equal(
+        &input,
+        (session.mode as usize, decrypting, session.n),
+        (came.1.mode, came.1.decrypting, came.1.n),
+    )?;
     let keys = session.key.as_ref().map_or([0; 240], |key| key.keys);
     equal(
         &input,
@@ -257,8 +261,8 @@ fn last_units(rng: &mut Rng) -> Outcome {
             let (_, mut theirs) =
                 reference::Session::open(Mode::Cfb, Direction::Decrypt, 8, &key, &iv);
             let (_, mut ours) = open(Mode::Cfb, Direction::Decrypt, 8, &key, &iv);
-            theirs.units = u32::MAX - left;
-            ours.units = u32::MAX - left;
+            theirs.units = MAX_UNITS - left;
+            ours.units = MAX_UNITS - left;
             let input = rng.bytes(units);
             let (mut expected, mut out) = ([7; 8], [7; 8]);
             let number = theirs.feed(&input, 8 * units, &mut expected, 0);
@@ -274,26 +278,25 @@ fn last_units(rng: &mut Rng) -> Outcome {
 }
 
 fn no_mode(rng: &mut Rng) -> Outcome {
-    for mode in 5..=255 {
+    let large = [256, 258, 65_538, (1 << 32) + 2, usize::MAX];
+    for mode in (5..=255).chain(large) {
         let key = rng.bytes(16);
         let iv = rng.bytes(16);
-        let (number, session) = rattle::Session::open(mode, false, 128, &key, &iv);
-        equal(|| format!("mode {mode}"), (12, 0, 0, true), {
-            (number, session.rounds, session.units, session.closed)
-        })?;
+        let (number, session) = rattle::Session::open(mode, true, 128, &key, &iv);
+        same(
+            || format!("mode {mode}"),
+            (12, &reference::Session::refused(), &[]),
+            (number, &session, &[]),
+        )?;
         let (_, mut session) = open(Mode::Ctr, Direction::Encrypt, 128, &key, &iv);
         session.mode = mode;
         let before = session.clone();
         let mut out = [9; 16];
+        let number = session.feed(&iv, 128, &mut out, 0);
         equal(
             || format!("mode {mode}"),
-            12,
-            session.feed(&iv, 128, &mut out, 0),
-        )?;
-        equal(
-            || format!("mode {mode}"),
-            (&before, [9; 16]),
-            (&session, out),
+            (12, &before, [9; 16]),
+            (number, &session, out),
         )?;
     }
     Ok(())

@@ -1,5 +1,6 @@
 // How much of the stack a call takes: it runs on a stack of its own, painted before, and the paint that is gone is counted.
 use crate::rattle::Session;
+use crate::reference::MAX_BITS;
 use crate::report::{Outcome, Report};
 use std::os::raw::{c_int, c_void};
 use std::ptr;
@@ -29,26 +30,23 @@ extern "C" {
 #[repr(C, align(4096))]
 struct Stack([u8; SIZE]);
 
-// What a thread does with the session: nothing, or a feed.
-struct Job {
-    session: Session,
-    feeds: bool,
-    bits: usize,
-    input: Vec<u8>,
-    out: Vec<u8>,
-    number: u8,
+// A call, and the address down to which the stack was in use before it.
+struct Job<'a> {
+    call: &'a mut dyn FnMut(),
+    top: usize,
 }
 
-extern "C" fn work(job: *mut c_void) -> *mut c_void {
+extern "C" fn start(job: *mut c_void) -> *mut c_void {
+    let local = 0u8;
     let job = unsafe { &mut *(job as *mut Job) };
-    if job.feeds {
-        job.number = job.session.feed(&job.input, job.bits, &mut job.out, 0);
-    }
+    job.top = &local as *const u8 as usize;
+    (job.call)();
     ptr::null_mut()
 }
 
-// The bytes of the stack that were written while the job ran.
-fn used(job: &mut Job) -> usize {
+// How far down its thread wrote the stack from the call on, in bytes.
+fn used(call: &mut dyn FnMut()) -> usize {
+    let mut job = Job { call, top: 0 };
     let mut stack = vec![Stack([PAINT; SIZE])];
     let at = stack.as_mut_ptr() as *mut c_void;
     unsafe {
@@ -56,24 +54,25 @@ fn used(job: &mut Job) -> usize {
         assert!(pthread_attr_init(&mut attributes) == 0);
         assert!(pthread_attr_setstack(&mut attributes, at, SIZE) == 0);
         let mut thread = 0;
-        let argument = job as *mut Job as *mut c_void;
-        assert!(pthread_create(&mut thread, &attributes, work, argument) == 0);
+        let argument = &mut job as *mut Job as *mut c_void;
+        assert!(pthread_create(&mut thread, &attributes, start, argument) == 0);
         assert!(pthread_join(thread, ptr::null_mut()) == 0);
         pthread_attr_destroy(&mut attributes);
         let bytes = std::slice::from_raw_parts(at as *const u8, SIZE);
-        SIZE - bytes.iter().take_while(|&&b| b == PAINT).count()
+        let untouched = bytes.iter().take_while(|&&b| b == PAINT).count();
+        job.top - (at as usize + untouched)
     }
 }
 
 pub fn run(report: &mut Report) {
     report.test(
-        "a feed takes less than 16 KiB of stack, in each mode and direction",
-        |_| feeds(),
+        "an opening and a feed take less than 16 KiB of stack, in each mode and direction",
+        |_| calls(),
     );
 }
 
-fn feeds() -> Outcome {
-    let mut most = 0;
+fn calls() -> Outcome {
+    let (mut opening, mut feed) = (0, 0);
     for (mode, n) in [
         (0, 128),
         (1, 128),
@@ -84,29 +83,29 @@ fn feeds() -> Outcome {
         (4, 128),
     ] {
         for decrypting in [false, true] {
-            let iv = vec![1; if mode == 0 { 0 } else { 16 }];
-            let (number, session) = Session::open(mode, decrypting, n, &[2; 32], &iv);
-            assert!(number == 0);
-            let mut job = Job {
-                session,
-                feeds: false,
-                bits: 524_288,
-                input: vec![3; 65_536],
-                out: vec![0; 65_536],
-                number: 255,
-            };
-            // the least of some turns: a thread's first start can take more than the next ones
-            let idle = (0..3).map(|_| used(&mut job)).min().unwrap();
-            job.feeds = true;
-            let fed = used(&mut job);
-            assert!(job.number == 0 && fed > idle);
-            most = most.max(fed - idle);
+            let (opened, fed) = stacks(mode, n, decrypting);
+            opening = opening.max(opened);
+            feed = feed.max(fed);
         }
     }
-    println!("a feed took {most} bytes of stack at most");
-    if most < LIMIT {
+    println!("bytes of stack at most: {opening} in an opening, {feed} in a feed");
+    if opening.max(feed) < LIMIT {
         Ok(())
     } else {
-        Err(format!("{most} bytes"))
+        Err(format!("{opening} and {feed} bytes"))
     }
+}
+
+// The stack of an opening and of the largest feed.
+fn stacks(mode: usize, n: usize, decrypting: bool) -> (usize, usize) {
+    let iv = vec![1; if mode == 0 { 0 } else { 16 }];
+    let open = || Session::open(mode, decrypting, n, &[2; 32], &iv);
+    let (_, mut session) = open();
+    let input = vec![3; MAX_BITS / 8];
+    let mut out = vec![0; MAX_BITS / 8];
+    let mut numbers = [255; 2];
+    let opened = used(&mut || numbers[0] = open().0);
+    let fed = used(&mut || numbers[1] = session.feed(&input, MAX_BITS, &mut out, 0));
+    assert!(numbers == [0, 0]);
+    (opened, fed)
 }

@@ -1,11 +1,17 @@
 -- What the public calls answer for a key that question 1 accepts, and for one that it refuses. Assumes nothing.
-use mathlib.Core.Path.{_≡_}
-use mathlib.Core.Bool.{true, false}
+use mathlib.Core.Path.{_≡_, refl, sym, ap, _∙_}
+use mathlib.Core.Bool.{Bool, true, false, cond, true≢false}
 use mathlib.Core.List.{List}
+use mathlib.Core.Logic.{inl, inr, _↔_}
 use Prim.Native.Nat.{ℕ, _+_, _/_}
 use lib.ListN.{length, replicate}
 use Rattle.aes.specs.KeyExpansion.{roundsFor, roundKeys}
-use Rattle.aes.specs.Calls.{keyOk, keyNumber, keyRounds, keyBytes, Expanded}
+use Rattle.aes.specs.Cipher.{roundsOk}
+use Rattle.aes.specs.Calls.{keyOk, keyNumber, keyRounds, keyBytes, encrypted, decrypted, Expanded}
+use Rattle.aes.specs.Promises.{AcceptedExpands, KeyLength, CallsAnswer}
+use Rattle.aes.proofs.TestLaws.{passed}
+use Rattle.aes.proofs.CipherLaws.{enc-refused, dec-refused}
+use Rattle.aes.proofs.KeyLaws.{keyBytes-length, keyBytes-bytes}
 
 module _ (key : List ℕ) where
   pub key-accepted : {keys : List ℕ} → keyOk key ≡ true → keys ≡ roundKeys key → Expanded key 0 (length key / 4 + 6) keys
@@ -15,3 +21,82 @@ module _ (key : List ℕ) where
   pub key-refused : keyOk key ≡ false → Expanded key 1 0 (replicate 240 0)
   unfolding keyNumber keyRounds keyBytes
   key-refused e = record { answer = rw e; expanded-rounds = rw e; expanded-keys = rw e }
+
+  -- ---- the number
+
+  length-accepted : keyOk key ≡ true → KeyLength (length key)
+  unfolding keyOk KeyLength
+  length-accepted e = passed KeyLength (length key) 16 24 32 e (inl refl) (inr (inl refl)) (inr (inr refl))
+
+  accepted-length : KeyLength (length key) → keyOk key ≡ true
+  unfolding keyOk KeyLength
+  accepted-length (inl e) = rw e
+  accepted-length (inr (inl e)) = rw e
+  accepted-length (inr (inr e)) = rw e
+
+  -- the answer to question 1, from the number
+  number-zero : keyNumber key ≡ 0 → keyOk key ≡ true
+  unfolding keyNumber
+  number-zero = go (keyOk key)
+    where
+      go : (b : Bool) → _≡_ {A = ℕ} (cond b 0 1) 0 → b ≡ true
+      go true e = refl
+      go false e = cc
+
+  number-one : keyNumber key ≡ 1 → keyOk key ≡ false
+  unfolding keyNumber
+  number-one = go (keyOk key)
+    where
+      go : (b : Bool) → _≡_ {A = ℕ} (cond b 0 1) 1 → b ≡ false
+      go true e = cc
+      go false e = refl
+
+  zero-exactly : (keyNumber key ≡ 0) ↔ KeyLength (length key)
+  unfolding keyNumber
+  zero-exactly = (λ e. length-accepted (number-zero e), λ l. rw (accepted-length l))
+
+  one-exactly : (keyNumber key ≡ 1) ↔ (KeyLength (length key) → ⊥)
+  unfolding keyNumber
+  one-exactly = (λ e l. true≢false (sym (accepted-length l) ∙ number-one e), go (keyOk key) refl)
+    where
+      go : (b : Bool) → keyOk key ≡ b → (KeyLength (length key) → ⊥) → _≡_ {A = ℕ} (cond b 0 1) 1
+      go true e n = absurd (n (length-accepted e))
+      go false e n = refl
+
+  -- ---- with number 1
+
+  refused-zeros : {number : ℕ} → number ≡ keyNumber key → number ≡ 1 → Expanded key 1 0 (replicate 240 0)
+  refused-zeros answer e = key-refused (number-one (sym answer ∙ e))
+
+  enc-zeros : (block : List ℕ) → 0 ≡ keyRounds key → encrypted key block ≡ replicate 16 0
+  unfolding encrypted roundsOk
+  enc-zeros block e = enc-refused (keyRounds key) (keyBytes key) block (ap roundsOk (sym e))
+
+  dec-zeros : (block : List ℕ) → 0 ≡ keyRounds key → decrypted key block ≡ replicate 16 0
+  unfolding decrypted roundsOk
+  dec-zeros block e = dec-refused (keyRounds key) (keyBytes key) block (ap roundsOk (sym e))
+
+-- ---- the promises
+
+pub accepted-expands : AcceptedExpands
+unfolding AcceptedExpands keyOk keyRounds roundsFor roundsOk
+accepted-expands key bytes ok =
+    record {
+      rounds =
+          ap (λ b. roundsOk (cond b (roundsFor (length key / 4)) 0)) ok
+          ∙ passed (λ l. roundsOk (roundsFor (l / 4)) ≡ true) (length key) 16 24 32 ok refl refl refl;
+      size = keyBytes-length key;
+      bytes = keyBytes-bytes key bytes;
+    }
+
+pub calls-answer : CallsAnswer
+calls-answer =
+    record {
+      accepted = zero-exactly;
+      refused = one-exactly;
+      expand-refused =
+          λ {key} r e.
+          let z = refused-zeros key (r .answer) e in (r .expanded-rounds ∙ sym (z .expanded-rounds), r .expanded-keys ∙ sym (z .expanded-keys));
+      encrypt-refused = λ {key} block r e. r .answer-block ∙ enc-zeros key block (refused-zeros key (r .answer) e .expanded-rounds);
+      decrypt-refused = λ {key} block r e. r .answer-block ∙ dec-zeros key block (refused-zeros key (r .answer) e .expanded-rounds);
+    }

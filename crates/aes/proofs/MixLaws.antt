@@ -2,7 +2,7 @@
 -- at the bytes with one digit says that the matrices' product gives a byte on the diagonal and 0 elsewhere. Assumes nothing.
 use mathlib.Core.Path.{_≡_, refl, sym, ap, _∙_}
 use mathlib.Core.Bool.{Bool, true, false, cond}
-use mathlib.Core.List.{List, [], _∷_}
+use mathlib.Core.List.{List}
 use Prim.Native.Nat.{ℕ, _^_, _<_}
 use native.Mathlib.Omega.{arith}
 use lib.Dec.{T, eqb, eqb→eq}
@@ -12,7 +12,7 @@ use Rattle.bits.proofs.Tables.{everyBelow, below}
 use Rattle.field.specs.Field.{double, shiftAdd, product}
 use Rattle.field.proofs.FieldLaws.{product-xor, product-byte}
 use Rattle.field.proofs.Linear.{Linear, linear-ext}
-use Rattle.aes.specs.Steps.{circulant, dot}
+use Rattle.aes.specs.Steps.{circulant, dot, mixRow, invMixRow}
 use Rattle.field.proofs.Fours.{places}
 
 sum : (ℕ → ℕ) → ℕ
@@ -89,23 +89,17 @@ pub dot-byte : (m x : ℕ → ℕ) → ((k : ℕ) → x k < 256) → dot m x < 2
 unfolding dot
 dot-byte m x h = Xor.width 8 (product-byte _ _ (h 0)) (Xor.width 8 (product-byte _ _ (h 1)) (Xor.width 8 (product-byte _ _ (h 2)) (product-byte _ _ (h 3))))
 
-abbrev forward : List ℕ
-forward = 0x02 ∷ 0x03 ∷ 0x01 ∷ 0x01 ∷ []
-
-abbrev backward : List ℕ
-backward = 0x0e ∷ 0x0b ∷ 0x0d ∷ 0x09 ∷ []
-
-backward-forward : Unmixes backward forward
+backward-forward : Unmixes invMixRow mixRow
 unfolding xor double shiftAdd product circulant sum entry diagonal
 backward-forward = tt
 
-forward-backward : Unmixes forward backward
+forward-backward : Unmixes mixRow invMixRow
 unfolding xor double shiftAdd product circulant sum entry diagonal
 forward-backward = tt
 
 -- MixColumns, then its inverse, on a column x; and the other way round
-pub unmix : (x : ℕ → ℕ) → ((k : ℕ) → x k < 256) → (r : ℕ) → r < 4 → dot (circulant backward r) (λ k. dot (circulant forward k) x) ≡ x r
-unmix = unmixed backward forward backward-forward
+pub unmix : (x : ℕ → ℕ) → ((k : ℕ) → x k < 256) → (r : ℕ) → r < 4 → dot (circulant invMixRow r) (λ k. dot (circulant mixRow k) x) ≡ x r
+unmix = unmixed invMixRow mixRow backward-forward
 
-pub remix : (x : ℕ → ℕ) → ((k : ℕ) → x k < 256) → (r : ℕ) → r < 4 → dot (circulant forward r) (λ k. dot (circulant backward k) x) ≡ x r
-remix = unmixed forward backward forward-backward
+pub remix : (x : ℕ → ℕ) → ((k : ℕ) → x k < 256) → (r : ℕ) → r < 4 → dot (circulant mixRow r) (λ k. dot (circulant invMixRow k) x) ≡ x r
+remix = unmixed mixRow invMixRow forward-backward

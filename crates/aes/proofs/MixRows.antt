@@ -1,7 +1,7 @@
 -- MixColumns and its inverse by whole rows: what the code makes of joined rows is what the matrices make of each column.
 -- Assumes nothing.
 use mathlib.Core.Path.{_≡_, ap, _∙_}
-use mathlib.Core.List.{List, [], _∷_, map}
+use mathlib.Core.List.{List, map}
 use Prim.Native.Nat.{ℕ, _+_, _%_, _<_}
 use Rattle.bits.specs.Xor.{xor}
 use Rattle.bits.specs.Counter.{number, numberBytes}
@@ -12,7 +12,7 @@ use Rattle.field.proofs.FieldLaws.{double-xor, double-byte, times-one, times-tw
 use Rattle.field.proofs.Fours.{places}
 use Rattle.field.proofs.RowLaws.{split-joined, xor-joined, double-joined}
 use Rattle.aes.specs.State.{at, state}
-use Rattle.aes.specs.Steps.{circulant, dot, mixWith, mixColumns, invMixColumns}
+use Rattle.aes.specs.Steps.{circulant, dot, mixWith, mixRow, mixColumns, invMixRow, invMixColumns}
 use Rattle.aes.proofs.StateLaws.{at-state, state-ext}
 use Rattle.aes.proofs.MixLaws.{dot-ext}
 
@@ -61,12 +61,6 @@ module _ (a b c d : ℕ → ℕ) (ha : (i : ℕ) → a i < 256) (hb : (i : ℕ) 
 
 -- ---- what the matrices make of a column x
 
-abbrev forward : List ℕ
-forward = 0x02 ∷ 0x03 ∷ 0x01 ∷ 0x01 ∷ []
-
-abbrev backward : List ℕ
-backward = 0x0e ∷ 0x0b ∷ 0x0d ∷ 0x09 ∷ []
-
 -- each row of the matrix 02 03 01 01
 forward-0 : (a b c d : ℕ) → mixed a b c d ≡ xor (product 2 a) (xor (product 3 b) (xor (product 1 c) (product 1 d)))
 unfolding mixed
@@ -84,10 +78,10 @@ forward-3 : (a b c d : ℕ) → mixed d a b c ≡ xor (product 3 a) (xor (produc
 unfolding mixed
 forward-3 a b c d = simp (times-one, times-two, times-three, double-xor, Xor.sorted)
 
-forward-mixed : (x : ℕ → ℕ) (r : ℕ) → r < 4 → mixed (x r) (x ((r + 1) % 4)) (x ((r + 2) % 4)) (x ((r + 3) % 4)) ≡ dot (circulant forward r) x
+forward-mixed : (x : ℕ → ℕ) (r : ℕ) → r < 4 → mixed (x r) (x ((r + 1) % 4)) (x ((r + 2) % 4)) (x ((r + 3) % 4)) ≡ dot (circulant mixRow r) x
 unfolding dot circulant
 forward-mixed x =
-    places (λ r. mixed (x r) (x ((r + 1) % 4)) (x ((r + 2) % 4)) (x ((r + 3) % 4)) ≡ dot (circulant forward r) x)
+    places (λ r. mixed (x r) (x ((r + 1) % 4)) (x ((r + 2) % 4)) (x ((r + 3) % 4)) ≡ dot (circulant mixRow r) x)
     (forward-0 (x 0) (x 1) (x 2) (x 3)) (forward-1 (x 0) (x 1) (x 2) (x 3)) (forward-2 (x 0) (x 1) (x 2) (x 3)) (forward-3 (x 0) (x 1) (x 2) (x 3))
 
 -- the matrix 0e 0b 0d 09 is that one after the preparation
@@ -113,10 +107,10 @@ backward-3 a b c d = simp by-doublings
 unfoldable pub preparedAt : (ℕ → ℕ) → ℕ → ℕ
 preparedAt x r = prepared (x r) (x ((r + 2) % 4))
 
-backward-prepared : (x : ℕ → ℕ) (r : ℕ) → r < 4 → dot (circulant forward r) (preparedAt x) ≡ dot (circulant backward r) x
+backward-prepared : (x : ℕ → ℕ) (r : ℕ) → r < 4 → dot (circulant mixRow r) (preparedAt x) ≡ dot (circulant invMixRow r) x
 unfolding dot circulant preparedAt
 backward-prepared x =
-    places (λ r. dot (circulant forward r) (preparedAt x) ≡ dot (circulant backward r) x) (backward-0 (x 0) (x 1) (x 2) (x 3))
+    places (λ r. dot (circulant mixRow r) (preparedAt x) ≡ dot (circulant invMixRow r) x) (backward-0 (x 0) (x 1) (x 2) (x 3))
     (backward-1 (x 0) (x 1) (x 2) (x 3)) (backward-2 (x 0) (x 1) (x 2) (x 3)) (backward-3 (x 0) (x 1) (x 2) (x 3))
 
 -- ---- whole states
@@ -126,11 +120,11 @@ mixedAt s r c = mixed (at s r c) (at s ((r + 1) % 4) c) (at s ((r + 2) % 4) c) (
 
 pub mixed-rows : (s : List (List ℕ)) → state (mixedAt s) ≡ mixColumns s
 unfolding mixedAt mixColumns mixWith
-mixed-rows s = state-ext (mixedAt s) (λ r c. dot (circulant forward r) (λ k. at s k c)) (λ r c hr hc. forward-mixed (λ k. at s k c) r hr)
+mixed-rows s = state-ext (mixedAt s) (λ r c. dot (circulant mixRow r) (λ k. at s k c)) (λ r c hr hc. forward-mixed (λ k. at s k c) r hr)
 
 pub prepared-rows : (s : List (List ℕ)) → mixColumns (state (λ r c. preparedAt (λ k. at s k c) r)) ≡ invMixColumns s
 unfolding mixColumns invMixColumns mixWith
 prepared-rows s =
-    state-ext (λ r c. dot (circulant forward r) (λ k. at (state (λ r c. preparedAt (λ k. at s k c) r)) k c)) (λ r c. dot (circulant backward r) (λ k. at s k c))
-    (λ r c hr hc. dot-ext (circulant forward r) (λ k. at (state (λ r c. preparedAt (λ k. at s k c) r)) k c) (preparedAt (λ k. at s k c)) (λ k hk. at-state (λ r c. preparedAt (λ k. at s k c) r) k c hk hc)
+    state-ext (λ r c. dot (circulant mixRow r) (λ k. at (state (λ r c. preparedAt (λ k. at s k c) r)) k c)) (λ r c. dot (circulant invMixRow r) (λ k. at s k c))
+    (λ r c hr hc. dot-ext (circulant mixRow r) (λ k. at (state (λ r c. preparedAt (λ k. at s k c) r)) k c) (preparedAt (λ k. at s k c)) (λ k hk. at-state (λ r c. preparedAt (λ k. at s k c) r) k c hk hc)
     ∙ backward-prepared (λ k. at s k c) r hr)

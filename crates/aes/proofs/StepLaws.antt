@@ -12,7 +12,7 @@ use Rattle.field.specs.Rows.{four}
 use Rattle.field.proofs.Fours.{four-ext}
 use Rattle.field.proofs.BoxLaws.{sub-inv, inv-sub, subByte-byte, invSubByte-byte}
 use Rattle.aes.specs.State.{at, state}
-use Rattle.aes.specs.Steps.{bytewise, subBytes, invSubBytes, shiftRows, invShiftRows, circulant, dot, mixWith, mixColumns, invMixColumns, addRoundKey}
+use Rattle.aes.specs.Steps.{bytewise, subBytes, invSubBytes, shiftRows, invShiftRows, circulant, dot, mixWith, mixRow, mixColumns, invMixRow, invMixColumns, addRoundKey}
 use Rattle.aes.proofs.StateLaws.{Square, StateBytes, at-state, state-ext, state-byte, state-square, rows, restored}
 use Rattle.aes.proofs.MixLaws.{unmix, remix, dot-ext, dot-byte}
 
@@ -106,19 +106,19 @@ mixWith-undone back there u {s} q =
 
 pub mixColumns-square : {s : List (List ℕ)} → Square s → Square (mixColumns s)
 unfolding mixColumns
-mixColumns-square = mixWith-square (0x02 ∷ 0x03 ∷ 0x01 ∷ 0x01 ∷ [])
+mixColumns-square = mixWith-square mixRow
 
 pub invMixColumns-square : {s : List (List ℕ)} → Square s → Square (invMixColumns s)
 unfolding invMixColumns
-invMixColumns-square = mixWith-square (0x0e ∷ 0x0b ∷ 0x0d ∷ 0x09 ∷ [])
+invMixColumns-square = mixWith-square invMixRow
 
 pub inv-mix-columns : {s : List (List ℕ)} → Square s → invMixColumns (mixColumns s) ≡ s
 unfolding mixColumns invMixColumns
-inv-mix-columns = mixWith-undone (0x0e ∷ 0x0b ∷ 0x0d ∷ 0x09 ∷ []) (0x02 ∷ 0x03 ∷ 0x01 ∷ 0x01 ∷ []) unmix
+inv-mix-columns = mixWith-undone invMixRow mixRow unmix
 
 pub mix-inv-columns : {s : List (List ℕ)} → Square s → mixColumns (invMixColumns s) ≡ s
 unfolding mixColumns invMixColumns
-mix-inv-columns = mixWith-undone (0x02 ∷ 0x03 ∷ 0x01 ∷ 0x01 ∷ []) (0x0e ∷ 0x0b ∷ 0x0d ∷ 0x09 ∷ []) remix
+mix-inv-columns = mixWith-undone mixRow invMixRow remix
 
 -- ---- AddRoundKey
 

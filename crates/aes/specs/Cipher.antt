@@ -1,6 +1,6 @@
 -- The cipher and the inverse cipher, FIPS 197 sections 5.1 and 5.3, under given rounds and round keys.
 use Prim.Native.Nat.{ℕ, zero, suc, _-_}
-use mathlib.Core.Bool.{Bool, true, false, cond}
+use mathlib.Core.Bool.{Bool, true, cond}
 use mathlib.Core.List.{List}
 use lib.Dec.{eqb}
 use lib.ListN.{replicate}

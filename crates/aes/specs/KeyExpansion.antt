@@ -1,10 +1,10 @@
 -- Key expansion, FIPS 197 section 5.2, over the schedule's bytes: word i is bytes 4i to 4i + 3.
 use Prim.Native.Nat.{ℕ, zero, suc, _+_, _-_, _*_, _/_, _%_}
-use mathlib.Core.Bool.{Bool, true, false, cond}
+use mathlib.Core.Bool.{cond}
 use mathlib.Core.List.{List, [], _∷_, _++_}
 use lib.Dec.{eqb, ltb}
-use lib.ListN.{length, getD, take, replicate}
-use Rattle.bits.specs.Xor.{xor, xorBytes}
+use lib.ListN.{length, getD, replicate}
+use Rattle.bits.specs.Xor.{xorBytes}
 use Rattle.field.specs.Field.{double}
 use Rattle.field.specs.Boxes.{subByte}
 use Rattle.field.specs.Rows.{four}

@@ -4,3 +4,4 @@ pub mod Steps
 pub mod KeyExpansion
 pub mod Cipher
 pub mod Calls
+pub mod Promises

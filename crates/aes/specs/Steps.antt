@@ -36,12 +36,18 @@ dot m x = xor (product (m 0) (x 0)) (xor (product (m 1) (x 1)) (xor (product (m 
 unfoldable pub mixWith : List ℕ → List (List ℕ) → List (List ℕ)
 mixWith first s = state (λ r c. dot (circulant first r) (λ k. at s k c))
 
--- 5.1.3 and 5.3.3.
+-- 5.1.3 and 5.3.3, each with its matrix's first row.
+abbrev pub mixRow : List ℕ
+mixRow = 0x02 ∷ 0x03 ∷ 0x01 ∷ 0x01 ∷ []
+
 unfoldable pub mixColumns : List (List ℕ) → List (List ℕ)
-mixColumns s = mixWith (0x02 ∷ 0x03 ∷ 0x01 ∷ 0x01 ∷ []) s
+mixColumns s = mixWith mixRow s
+
+abbrev pub invMixRow : List ℕ
+invMixRow = 0x0e ∷ 0x0b ∷ 0x0d ∷ 0x09 ∷ []
 
 unfoldable pub invMixColumns : List (List ℕ) → List (List ℕ)
-invMixColumns s = mixWith (0x0e ∷ 0x0b ∷ 0x0d ∷ 0x09 ∷ []) s
+invMixColumns s = mixWith invMixRow s
 
 -- 5.1.4: round key number `round` of the schedule w, whose bytes stand as those of a block do.
 unfoldable pub addRoundKey : List ℕ → ℕ → List (List ℕ) → List (List ℕ)

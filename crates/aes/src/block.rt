@@ -5,7 +5,6 @@ ghost use mathlib.Core.Path.{_≡_};
 ghost use mathlib.Core.Bool.{true};
 ghost use Prim.Native.Nat.{_<_};
 ghost use lib.ListN.{getD};
-ghost use Rattle.field.specs.Boxes.{subByte, invSubByte, Tabulates};
 ghost use Rattle.aes.specs.Steps.{bytewise, shiftRows, invShiftRows, mixColumns, invMixColumns, addRoundKey};
 ghost use Rattle.aes.specs.Cipher.{cipher, invCipher, roundsOk, Enc, Dec};
 

@@ -3,6 +3,7 @@
 use crate::block;
 use crate::expansion;
 ghost use mathlib.Core.Path.{_≡_};
+ghost use Rattle.aes.specs.Cipher.{Enc, Dec};
 ghost use Rattle.aes.specs.Calls.{keyOk, encrypted, decrypted, Expanded, BlockAnswer};
 
 pub struct Schedule {
@@ -42,14 +43,28 @@ pub fn expand(key: &[u8]) -> Schedule
     }
 }
 
+// Enc and Dec under an expanded key.
+fn encrypt_under(schedule: Schedule, block: [u8; 16]) -> [u8; 16]
+    ensures { λ r. ⌜ r ≡ Enc (schedule .rounds) (schedule .keys) block ⌝ }
+{
+    let keys = schedule.keys;
+    block::encrypt_block(schedule.rounds, &keys, block)
+}
+
+fn decrypt_under(schedule: Schedule, block: [u8; 16]) -> [u8; 16]
+    ensures { λ r. ⌜ r ≡ Dec (schedule .rounds) (schedule .keys) block ⌝ }
+{
+    let keys = schedule.keys;
+    block::decrypt_block(schedule.rounds, &keys, block)
+}
+
 pub fn encrypt(key: &[u8], block: [u8; 16]) -> Answer
     ensures { λ r. ⌜ BlockAnswer (now (key .entry)) (encrypted (now (key .entry)) block) (r .number) (r .block) ⌝ }
 {
     let schedule = expand(key);
-    let keys = schedule.keys;
     Answer {
         number: schedule.number,
-        block: block::encrypt_block(schedule.rounds, &keys, block),
+        block: encrypt_under(schedule, block),
     }
 }
 
@@ -57,9 +72,8 @@ pub fn decrypt(key: &[u8], block: [u8; 16]) -> Answer
     ensures { λ r. ⌜ BlockAnswer (now (key .entry)) (decrypted (now (key .entry)) block) (r .number) (r .block) ⌝ }
 {
     let schedule = expand(key);
-    let keys = schedule.keys;
     Answer {
         number: schedule.number,
-        block: block::decrypt_block(schedule.rounds, &keys, block),
+        block: decrypt_under(schedule, block),
     }
 }

@@ -1,6 +1,6 @@
 // The steps of a round, row by row.
 ghost use mathlib.Core.Path.{_≡_};
-ghost use Prim.Native.Nat.{_+_, _*_, _<_};
+ghost use Prim.Native.Nat.{_+_, _*_, _%_, _<_};
 ghost use lib.ListN.{getD};
 ghost use Rattle.bits.specs.Xor.{xor};
 ghost use Rattle.field.specs.Field.{double};
@@ -19,14 +19,27 @@ pub fn sub_bytes(table: &[u8; 256], s: [[u8; 4]; 4]) -> [[u8; 4]; 4]
     ]
 }
 
+// A row turned left by so many places.
+fn turned(row: [u8; 4], by: usize) -> [u8; 4]
+    requires { ⌜ by < 4 ⌝ }
+    ensures { λ r. ⌜ r ≡ four (λ i. getD row ((by + i) % 4) 0) ⌝ }
+{
+    [
+        row[by % 4],
+        row[(by + 1) % 4],
+        row[(by + 2) % 4],
+        row[(by + 3) % 4],
+    ]
+}
+
 pub fn shift_rows(s: [[u8; 4]; 4]) -> [[u8; 4]; 4]
     ensures { λ r. ⌜ r ≡ shiftRows s ⌝ }
 {
     [
-        [s[0][0], s[0][1], s[0][2], s[0][3]],
-        [s[1][1], s[1][2], s[1][3], s[1][0]],
-        [s[2][2], s[2][3], s[2][0], s[2][1]],
-        [s[3][3], s[3][0], s[3][1], s[3][2]],
+        turned(s[0], 0),
+        turned(s[1], 1),
+        turned(s[2], 2),
+        turned(s[3], 3),
     ]
 }
 
@@ -34,10 +47,10 @@ pub fn inv_shift_rows(s: [[u8; 4]; 4]) -> [[u8; 4]; 4]
     ensures { λ r. ⌜ r ≡ invShiftRows s ⌝ }
 {
     [
-        [s[0][0], s[0][1], s[0][2], s[0][3]],
-        [s[1][3], s[1][0], s[1][1], s[1][2]],
-        [s[2][2], s[2][3], s[2][0], s[2][1]],
-        [s[3][1], s[3][2], s[3][3], s[3][0]],
+        turned(s[0], 0),
+        turned(s[1], 3),
+        turned(s[2], 2),
+        turned(s[3], 1),
     ]
 }
 

@@ -3,12 +3,11 @@
 use mathlib.Core.Path.{_≡_, refl, sym, ap, ap₂, _∙_}
 use mathlib.Core.List.{List, [], _∷_, _++_, append-nil}
 use Prim.Native.Nat.{ℕ, zero, suc, _+_, _≤_, _<_}
-use native.Mathlib.Nat.{zero-add, le-of-eq, le-of-suc-le-suc, suc-add, not-suc-le-zero}
+use native.Mathlib.Nat.{zero-add, le-of-eq, le-of-suc-le-suc, not-suc-le-zero}
 use native.Mathlib.Numerals.{add-one}
 use native.Mathlib.Omega.{arith}
-use lib.ListN.{length, getD, take, drop, set, length-append, length-drop, drop-of-length-le, List·getD-append}
-use lib.Seq.{take-all, take-at, length-take-le, take-set-lt, getD-take, getD-append-add, set-append-left}
-use lib.Seq.{paste, paste-suc, length-paste-head}
+use lib.ListN.{length, getD, take, drop, set, length-append, length-drop, drop-of-length-le}
+use lib.Seq.{take-all, take-at, paste, paste-suc}
 use Rattle.bits.specs.Xor.{xor, xorBytes}
 
 -- a turn, at any place of a list: v is the next element
@@ -16,30 +15,6 @@ pub pasted-next : (d : List ℕ) (at : ℕ) (t : List ℕ) (i : ℕ) {l : List �
     → i < length t → set l (at + i) v ≡ paste d at t (i + 1)
 pasted-next d at t i e f hd ht =
     ap₂ (λ (m : List ℕ) (w : ℕ). set m (at + i) w) e f ∙ paste-suc d at t i 0 hd ht ∙ ap (paste d at t) (sym (add-one i))
-
--- ---- one more store into what was pasted
-
-set-append-add : (xs ys : List ℕ) (n a : ℕ) → set (xs ++ ys) (length xs + n) a ≡ xs ++ set ys n a
-set-append-add [] ys n a = rw zero-add
-set-append-add (x ∷ xs) ys n a = rw suc-add (ap (λ (l : List ℕ). x ∷ l) (set-append-add xs ys n a))
-
-module _ (d : List ℕ) (at : ℕ) (t : List ℕ) (n j : ℕ) (room : at ≤ length d) (full : n ≤ length t) (below : j < n) where
-  inside : at + j < length (take at d ++ take n t)
-  inside = rw (length-paste-head d at t n room full) (omega arith)
-
-  pub set-pasted : (v : ℕ) → set (paste d at t n) (at + j) v ≡ paste d at (set t j v) n
-  set-pasted v =
-      let e : at ≡ length (take at d) = sym (length-take-le at d room) in
-      set-append-left (take at d ++ take n t) (drop (at + n) d) (at + j) v inside
-      ∙ ap (λ (l : List ℕ). l ++ drop (at + n) d)
-      (ap (λ (k : ℕ). set (take at d ++ take n t) (k + j) v) e ∙ set-append-add (take at d) (take n t) j v
-      ∙ ap (λ (l : List ℕ). take at d ++ l) (sym (take-set-lt n t j v below)))
-
-  pub getD-pasted : getD (paste d at t n) (at + j) 0 ≡ getD t j 0
-  getD-pasted =
-      let e : at ≡ length (take at d) = sym (length-take-le at d room) in
-      List·getD-append (take at d ++ take n t) (drop (at + n) d) 0 (at + j) inside
-      ∙ ap (λ (k : ℕ). getD (take at d ++ take n t) (k + j) 0) e ∙ getD-append-add (take at d) (take n t) j 0 ∙ getD-take n t j 0 below
 
 -- two lists one behind the other fill a list that has just the room
 pub pasted-both : (k : ℕ) (d a b : List ℕ) → length d ≡ k + k → length a ≡ k → length b ≡ k → paste (paste d 0 a k) k b k ≡ a ++ b

@@ -3,8 +3,8 @@
 use mathlib.Core.Path.{_≡_, refl, sym, ap, _∙_}
 use mathlib.Core.Bool.{Bool}
 use mathlib.Core.List.{List, _∷_, _++_, append-assoc}
-use Prim.Native.Nat.{ℕ, suc, _+_, _-_, _*_, _/_, _%_, _^_, _≤_, _<_}
-use native.Mathlib.Nat.{div-div-eq-div-mul, div-one, zero-add, mod-eq-of-lt, lt-of-le-of-lt, add-assoc, le-refl, le-of-eq}
+use Prim.Native.Nat.{ℕ, zero, suc, _+_, _-_, _*_, _/_, _%_, _^_, _≤_, _<_}
+use native.Mathlib.Nat.{div-div-eq-div-mul, div-one, zero-add, mod-eq-of-lt, suc-add, lt-of-le-of-lt, add-assoc, le-refl, le-of-eq}
 use native.Mathlib.Numerals.{add-one}
 use native.Mathlib.Omega.{arith}
 use lib.ListN.{length, getD, take, drop, set, length-append, length-drop}
@@ -12,10 +12,10 @@ use lib.Pow.{shr-le}
 use lib.Seq.{drop-drop, drop-append-le, take-append-le, drop-cons, paste, take-all, take-add, take-append-add, length-take-le}
 use Rattle.bits.specs.Texts.{bit, byteBits, bits, byteOf, packTo, pack, bytesFor, putBits}
 use Rattle.bits.specs.Blocks.{Bytes, Block}
-use Rattle.bits.proofs.Texts.{length-byteBits, length-bits, take-bits, drop-bits, take-bytes, packTo-length, pack-append, pack-bits, packTo-bits, bits-block}
+use Rattle.bits.proofs.Texts.{cons-bytes, length-byteBits, length-bits, take-bits, drop-bits, take-bytes, packTo-length, pack-append, pack-bits, packTo-bits, bits-block}
 use Rattle.bits.proofs.Windows.{upTo8, window-byte}
-use Rattle.bits.proofs.Packed.{packTo-cut, store-last}
-use Rattle.bits.proofs.Fills.{set-pasted, getD-pasted}
+use Rattle.bits.proofs.Packed.{packTo-cut, packTo-last}
+use Rattle.bits.proofs.Fills.{pasted-next}
 
 -- ---- the bits that stay
 
@@ -42,14 +42,16 @@ behind old first r seg h l =
       moved b r l,
     )
 
--- byte i of them, where `high` holds the bits that stay
-pub behind-byte : (old : List ℕ) (first r : ℕ) (seg : List ℕ) {high : ℕ} → first < length old → r ≤ 8
-    → high ≡ getD old first 0 / 2 ^ (8 - r) → Bytes (high ∷ seg) → (i : ℕ)
-    → byteOf (drop (i * 8) (take r (bits (drop first old)) ++ bits seg)) ≡ (getD (high ∷ seg) i 0 * 256 + getD seg i 0) / 2 ^ (8 - (8 - r)) % 256
-behind-byte old first r seg {high} h l f bytes i =
+-- byte i of them, from the two bytes that it lies in
+pub next-byte : (old : List ℕ) (first r : ℕ) (seg : List ℕ) (i : ℕ) {high low : ℕ} → first < length old → r ≤ 8 → getD old first 0 < 256 → Bytes seg
+    → high ≡ getD (getD old first 0 / 2 ^ (8 - r) ∷ seg) i 0 → low ≡ getD seg i 0
+    → (high * 256 + low) / 2 ^ (8 - (8 - r)) % 256 ≡ byteOf (drop (i * 8) (take r (bits (drop first old)) ++ bits seg))
+next-byte old first r seg i h l byte bytes eh el =
+    let kept = getD old first 0 / 2 ^ (8 - r) in
+    let all : Bytes (kept ∷ seg) = cons-bytes (lt-of-le-of-lt (shr-le (getD old first 0) (8 - r)) byte) bytes in
     let e : 8 - r + i * 8 ≡ i * 8 + (8 - r) = omega arith in
-    let next : getD (high ∷ seg) (i + 1) 0 ≡ getD seg i 0 = ap (λ (n : ℕ). getD (high ∷ seg) n 0) (add-one i) in
-    rw (behind old first r seg h l, ← f, drop-drop, e, window-byte (high ∷ seg) bytes i (8 - r) (omega arith), next)
+    let next : getD (kept ∷ seg) (i + 1) 0 ≡ getD seg i 0 = ap (λ (n : ℕ). getD (kept ∷ seg) n 0) (add-one i) in
+    rw (eh, el) (sym (rw (behind old first r seg h l, drop-drop, e, window-byte (kept ∷ seg) all i (8 - r) (omega arith), next)))
 
 pub none-before : (b k : ℕ) → b < 256 → (0 * 256 + b) / 2 ^ k % 256 ≡ b / 2 ^ k
 none-before b k h = rw zero-add (mod-eq-of-lt (lt-of-le-of-lt (shr-le b k) h))
@@ -62,6 +64,11 @@ bytesFor-add k n = omega arith
 
 take-packTo : (k : ℕ) (x : List Bool) → take k (packTo k x) ≡ packTo k x
 take-packTo k x = take-all k (packTo k x) (le-of-eq (packTo-length k x))
+
+front-packTo : (k j : ℕ) (x : List Bool) → take k (packTo (k + j) x) ≡ packTo k x
+unfolding packTo
+front-packTo zero j x = refl
+front-packTo (suc k) j x = rw suc-add (ap (λ (t : List ℕ). byteOf x ∷ t) (front-packTo k j (drop 8 x)))
 
 -- the bits of byte `first` that stay
 abbrev stay : List ℕ → ℕ → ℕ → List Bool
@@ -99,35 +106,34 @@ module _ (old : List ℕ) (first r : ℕ) (room : first * 8 + r ≤ length old *
   cut : (n : ℕ) (x : List Bool) → take (r + n) (stay old first r ++ x) ≡ stay old first r ++ take n x
   cut n x = rw length-stay at (take-append-add (stay old first r) x n)
 
-  -- whole bytes are written; where the last one is full, they hold no bit past the text's
+  -- whole bytes are written; where the text ends with them, they hold no bit past the text's
   pub put-full : (n : ℕ) (x : List Bool) {l : List ℕ} → (r + n) % 8 ≡ 0
-      → l ≡ paste old first (packTo (bytesFor (r + n)) (stay old first r ++ x)) (bytesFor (r + n))
+      → l ≡ paste old first (packTo ((r + n) / 8) (stay old first r ++ x)) ((r + n) / 8)
       → l ≡ paste old first (packTo (bytesFor (r + n)) (stay old first r ++ take n x)) (bytesFor (r + n))
   unfolding bytesFor
   put-full n x full e =
       let k = bytesFor (r + n) in
-      e ∙ ap (λ (t : List ℕ). paste old first t k)
+      let same : (r + n) / 8 ≡ k = omega arith in
+      rw same at e ∙ ap (λ (t : List ℕ). paste old first t k)
       (sym (packTo-cut k (r + n) (stay old first r ++ x) (omega arith)) ∙ ap (packTo k) (cut n x))
 
-  -- else one more store clears what is past it
-  pub put-last : (n : ℕ) (x : List Bool) {l : List ℕ} {v : ℕ} → ((r + n) % 8 ≡ 0 → ⊥)
-      → l ≡ paste old first (packTo (bytesFor (r + n)) (stay old first r ++ x)) (bytesFor (r + n))
-      → v ≡ getD l (first + (r + n) / 8) 0 / 2 ^ (8 - (r + n) % 8) * 2 ^ (8 - (r + n) % 8)
+  -- else one byte more, of which only the text's own bits are kept
+  pub put-last : (n : ℕ) (x : List Bool) {l : List ℕ} {b v : ℕ} → ((r + n) % 8 ≡ 0 → ⊥)
+      → l ≡ paste old first (packTo ((r + n) / 8) (stay old first r ++ x)) ((r + n) / 8)
+      → b ≡ byteOf (drop ((r + n) / 8 * 8) (stay old first r ++ x)) → v ≡ b / 2 ^ (8 - (r + n) % 8) * 2 ^ (8 - (r + n) % 8)
+      → first + (r + n) / 8 < length old
       → set l (first + (r + n) / 8) v ≡ paste old first (packTo (bytesFor (r + n)) (stay old first r ++ take n x)) (bytesFor (r + n))
   unfolding bytesFor
-  put-last n x {l} {v} some e f =
-      let k = bytesFor (r + n) in
+  put-last n x {l} {b} {v} some e eb ev inside =
       let j = (r + n) / 8 in
       let text = stay old first r ++ x in
-      let long : k ≤ length (packTo k text) = le-of-eq (sym (packTo-length k text)) in
-      let byte : getD l (first + j) 0 ≡ getD (packTo k text) j 0 =
-      ap (λ (m : List ℕ). getD m (first + j) 0) e ∙ getD-pasted old first (packTo k text) k j (omega arith) long (omega arith) in
-      let last : set (packTo k text) j v ≡ packTo k (take (r + n) text) =
-      store-last k (r + n) text (sym (packTo-cut k (j * 8 + 8) text (omega arith)))
-      (f ∙ ap (λ (b : ℕ). b / 2 ^ (8 - (r + n) % 8) * 2 ^ (8 - (r + n) % 8)) byte) (omega arith) in
-      ap (λ (m : List ℕ). set m (first + j) v) e
-      ∙ set-pasted old first (packTo k text) k j (omega arith) long (omega arith) v
-      ∙ ap (λ (t : List ℕ). paste old first t k) (last ∙ ap (packTo k) (cut n x))
+      let whole = packTo (j + 1) (take (r + n) text) in
+      let more : bytesFor (r + n) ≡ j + 1 = omega arith in
+      let so-far : l ≡ paste old first whole j =
+      e ∙ ap (λ (t : List ℕ). (take first old ++ t) ++ drop (first + j) old) (take-packTo j text ∙ sym (front-packTo j 1 (take (r + n) text) ∙ packTo-cut j (r + n) text (omega arith))) in
+      let last : v ≡ getD whole j 0 =
+      ev ∙ ap (λ (w : ℕ). w / 2 ^ (8 - (r + n) % 8) * 2 ^ (8 - (r + n) % 8)) eb ∙ sym (packTo-last (j + 1) (r + n) text (omega arith)) in
+      rw more (pasted-next old first whole j so-far last inside (rw packTo-length (omega arith)) ∙ ap (λ (t : List Bool). paste old first (packTo (j + 1) t) (j + 1)) (cut n x))
 
 -- the first n bits of a block
 module _ (old : List ℕ) (bytes : Bytes old) (at : ℕ) (seg : List ℕ) (block : Block seg) where

@@ -1,4 +1,4 @@
-// Bytes as bits: a bit, a window, a register's shift, bits put in place; XOR of blocks and the counter.
+// Bytes as bits: a window, a register's shift, bits put in place; XOR of blocks and the counter.
 mod block;
 mod place;
 mod read;
@@ -8,6 +8,5 @@ mod shift;
 pub use block::increment_block;
 pub use block::xor_block;
 pub use place::put_bits;
-pub use read::read_bit;
 pub use read::window;
 pub use register::shift_in;

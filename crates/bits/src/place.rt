@@ -3,9 +3,9 @@ use crate::read::byte_at;
 use crate::shift::first_bits;
 use crate::shift::two_bytes;
 ghost use mathlib.Core.Path.{_≡_};
-ghost use mathlib.Core.List.{_++_};
-ghost use Prim.Native.Nat.{_+_, _*_, _/_, _%_, _≤_, _<_};
-ghost use lib.ListN.{length, take, drop};
+ghost use mathlib.Core.List.{_∷_, _++_};
+ghost use Prim.Native.Nat.{_+_, _-_, _*_, _/_, _%_, _^_, _≤_, _<_};
+ghost use lib.ListN.{length, getD, take, drop};
 ghost use lib.Seq.{paste};
 ghost use Rattle.bits.specs.Texts.{bits, packTo, putBits};
 
@@ -24,11 +24,12 @@ pub fn put_bits(out: &mut [u8], at: usize, segment: [u8; 16], n: usize)
         }
     }
     let end = r + n;
-    put_bytes(out, first, r as u32, segment, (end + 7) / 8);
+    let whole = end / 8;
+    let high = put_bytes(out, first, r as u32, segment, whole);
     let used = end % 8;
     if used != 0 {
-        let last = first + end / 8;
-        out[last] = first_bits(out[last], used as u32);
+        let byte = two_bytes(high, byte_at(&segment, whole), 8 - r as u32);
+        put_part(&mut out[first + whole], byte, used as u32);
     }
 }
 
@@ -43,10 +44,12 @@ pub fn put_block(out: &mut [u8], first: usize, block: [u8; 16])
     }
 }
 
-// Whole bytes from `first` on: the first r bits there stay, and the segment comes behind them.
-fn put_bytes(out: &mut [u8], first: usize, r: u32, segment: [u8; 16], count: usize)
+// Whole bytes from `first` on: the first r bits there stay, and the segment comes behind them. Gives the byte in which the next one
+// would begin.
+fn put_bytes(out: &mut [u8], first: usize, r: u32, segment: [u8; 16], count: usize) -> u8
     requires { ⌜ (r < 8) × (first + count ≤ length (now out)) ⌝ }
-    ensures { λ _. ⌜ now (out .exit) ≡ paste (now (out .entry)) first (packTo count (take r (bits (drop first (now (out .entry)))) ++ bits segment)) count ⌝ }
+    ensures written { λ _. ⌜ now (out .exit) ≡ paste (now (out .entry)) first (packTo count (take r (bits (drop first (now (out .entry)))) ++ bits segment)) count ⌝ }
+    ensures high { λ b. ⌜ b ≡ getD (getD (now (out .entry)) first 0 / 2 ^ (8 - r) ∷ segment) count 0 ⌝ }
 {
     let mut high = two_bytes(0, byte_at(out, first), r);
     let mut i = 0;
@@ -56,4 +59,13 @@ fn put_bytes(out: &mut [u8], first: usize, r: u32, segment: [u8; 16], count: usi
         high = low;
         i += 1;
     }
+    high
+}
+
+// A byte whose first k bits are the text's last ones: its other bits become 0.
+fn put_part(place: &mut u8, byte: u8, k: u32)
+    requires { ⌜ k < 8 ⌝ }
+    ensures { λ _. ⌜ now (place .exit) ≡ byte / 2 ^ (8 - k) * 2 ^ (8 - k) ⌝ }
+{
+    *place = first_bits(byte, k);
 }

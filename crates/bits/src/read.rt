@@ -2,17 +2,9 @@
 use crate::shift::first_bits;
 use crate::shift::two_bytes;
 ghost use mathlib.Core.Path.{_≡_};
-ghost use mathlib.Core.Bool.{false};
 ghost use Prim.Native.Nat.{_+_, _*_, _≤_, _<_};
 ghost use lib.ListN.{length, getD, take, drop};
 ghost use Rattle.bits.specs.Texts.{bits, packTo};
-
-// Bit k, counted from the highest of the first byte.
-pub fn read_bit(s: &[u8], k: usize) -> bool
-    ensures { λ r. ⌜ r ≡ getD (bits (now (s .entry))) k false ⌝ }
-{
-    (byte_at(s, k / 8) >> ((7 - k % 8) as u8)) % 2 == 1
-}
 
 // Byte k, or 0 past the end.
 pub fn byte_at(s: &[u8], k: usize) -> u8

@@ -64,16 +64,6 @@ fn show(bytes: &[u8]) {
     end_line();
 }
 
-fn show_bits(s: &[u8]) {
-    let mut k: usize = 0;
-    while k < 20 {
-        let bit = bits::read_bit(s, k);
-        io::print_decimal(STDOUT_FILENO, bit as u64);
-        k += 1;
-    }
-    end_line();
-}
-
 fn show_window(s: &[u8], offset: usize, n: usize) {
     show(&bits::window(s, offset, n));
 }
@@ -132,7 +122,6 @@ fn show_increments() {
 }
 
 fn main() {
-    show_bits(b"\xa5\x0f");
     show_lengths();
     show(&bits::xor_block(FIRST, SECOND));
     show_increments();

@@ -1,18 +1,21 @@
--- A session held apart: a number that is no mode, and what open and feed give under one that is. Assumes nothing.
+-- A session held apart: a number that is no mode, what open and feed give under one that is, and the fields that make a session
+-- again. Assumes nothing.
 use Prim.Native.Nat.{ℕ, _≤_, _<_}
-use mathlib.Core.Path.{_≡_, refl, sym, ap, _∙_}
-use mathlib.Core.Bool.{Bool, true, cond}
+use mathlib.Core.Path.{_≡_, refl, sym, _∙_}
+use mathlib.Core.Bool.{Bool, cond}
 use mathlib.Core.List.{List}
 use lib.Dec.{leb, eqb}
-use lib.ListN.{length, replicate}
+use lib.ListN.{length}
 use borrow.Author.Tests.{le-leb, lt-leb}
 use Rattle.rules.specs.declared.Mode.{Mode}
+use Rattle.rules.specs.declared.Mode.the-variants.{Ecb, Cbc, Cfb, Ofb, Ctr}
 use Rattle.rules.specs.declared.Direction.{Direction}
+use Rattle.rules.specs.declared.Direction.the-variants.{Encrypt, Decrypt}
 use Rattle.modes.specs.declared.session.Session.{Session}
 use Rattle.modes.specs.declared.session.Opened.{Opened}
 use Rattle.modes.specs.declared.session.Fed.{Fed}
 use Rattle.modes.specs.Sessions.{OpenedBy, FedBy, openNumber, feedNumber, refusedSession}
-use Rattle.capi.specs.Held.{modeOf, directionOf, coded, openedNumber, openedAs, OpenedAt, fedNumber, fedAs, FedAt}
+use Rattle.capi.specs.Held.{modeOf, modeNumber, directionOf, directionDecrypts, coded, openedNumber, openedAs, OpenedByNumber, OpenedAt, held, HeldAgain, fedNumber, fedAs, FedAt}
 
 mode-number : (code k : ℕ) → code ≤ 4 → coded code k ≡ k
 unfolding coded
@@ -25,36 +28,56 @@ no-mode code k h = rw (lt-leb code 4 h)
 -- ---- open
 
 module _ (code : ℕ) (decrypting : Bool) (n : ℕ) (key iv : List ℕ) where
-  pub not-opened : 4 < code → OpenedAt code decrypting n key iv 12 0 (replicate 240 0) (replicate 16 0) 0 true
-  unfolding openedNumber openedAs refusedSession
-  not-opened h =
+  pub not-opened : {r : Opened} → 4 < code → r .number ≡ 12 → r .session ≡ refusedSession → OpenedByNumber code decrypting n key iv r
+  unfolding openedNumber openedAs
+  not-opened h a s =
       let e = no-mode code (openNumber (modeOf code) n key iv) h in
-      record {
-        answer = sym e;
-        rounds-written = rw e;
-        keys-written = rw e;
-        register-written = rw e;
-        units-written = rw e;
-        closed-written = rw e;
-      }
+      record { answer = a ∙ sym e; opened = rw e s }
 
   pub opened : {mode : Mode} {dir : Direction} {r : Opened} → code ≤ 4 → mode ≡ modeOf code → dir ≡ directionOf decrypting
       → OpenedBy mode dir n key iv r
-      → OpenedAt code decrypting n key iv (r .number) (r .session .rounds) (r .session .keys) (r .session .register) (r .session .units) (r .session .closed)
+      → OpenedByNumber code decrypting n key iv r
   unfolding openedNumber openedAs
   opened h m d o =
       let e = mode-number code (openNumber (modeOf code) n key iv) h in
+      record { answer = rw (e, ← m) (o .answer); opened = rw (e, ← m, ← d) (o .opened) }
+
+  -- The fields of what was opened, written one by one.
+  pub fields-written : {r : Opened} {m : ℕ} {d : Bool} → OpenedByNumber code decrypting n key iv r → m ≡ modeNumber (r .session .mode)
+      → d ≡ directionDecrypts (r .session .direction)
+      → OpenedAt code decrypting n key iv (r .number) m d (r .session .n) (r .session .rounds) (r .session .keys) (r .session .register) (r .session .units) (r .session .closed)
+  fields-written o m d =
       let s = o .opened in
       record {
-        answer = rw (e, ← m) (o .answer);
-        rounds-written = rw (e, ← m, ← d, s);
-        keys-written = rw (e, ← m, ← d, s);
-        register-written = rw (e, ← m, ← d, s);
-        units-written = rw (e, ← m, ← d, s);
-        closed-written = rw (e, ← m, ← d, s);
+        answer = o .answer;
+        mode-written = m ∙ rw s;
+        direction-written = d ∙ rw s;
+        n-written = rw s;
+        rounds-written = rw s;
+        keys-written = rw s;
+        register-written = rw s;
+        units-written = rw s;
+        closed-written = rw s;
       }
 
 -- ---- feed
+
+mode-again : (m : Mode) → modeOf (modeNumber m) ≡ m
+unfolding modeOf modeNumber
+mode-again Ecb = refl
+mode-again Cbc = refl
+mode-again Cfb = refl
+mode-again Ofb = refl
+mode-again Ctr = refl
+
+direction-again : (d : Direction) → directionOf (directionDecrypts d) ≡ d
+unfolding directionOf directionDecrypts
+direction-again Encrypt = refl
+direction-again Decrypt = refl
+
+pub held-again : HeldAgain
+unfolding held HeldAgain
+held-again s = rw (mode-again (s .mode), direction-again (s .direction))
 
 module _ (code : ℕ) (s : Session) (input : List ℕ) (count : ℕ) (out : List ℕ) (place : ℕ) where
   pub not-fed : 4 < code → FedAt code s input count out place 12 (s .register) (s .units) (s .closed) out

@@ -1,7 +1,7 @@
 -- Sessions whose fields the caller holds apart: what a mode's number stands for, and what the two calls answer and write.
 use Prim.Native.Nat.{ℕ}
 use mathlib.Core.Path.{_≡_}
-use mathlib.Core.Bool.{Bool, cond}
+use mathlib.Core.Bool.{Bool, true, false, cond}
 use mathlib.Core.List.{List}
 use lib.Dec.{eqb, leb}
 use lib.ListN.{length}
@@ -10,6 +10,7 @@ use Rattle.rules.specs.declared.Mode.the-variants.{Ecb, Cbc, Cfb, Ofb, Ctr}
 use Rattle.rules.specs.declared.Direction.{Direction}
 use Rattle.rules.specs.declared.Direction.the-variants.{Encrypt, Decrypt}
 use Rattle.modes.specs.declared.session.Session.{Session}
+use Rattle.modes.specs.declared.session.Opened.{Opened}
 use Rattle.modes.specs.Sessions.{openNumber, openedSession, refusedSession, feedNumber, fedText, sessionText, fedSession, written}
 
 -- ---- the numbers
@@ -17,8 +18,19 @@ use Rattle.modes.specs.Sessions.{openNumber, openedSession, refusedSession, fee
 unfoldable pub modeOf : ℕ → Mode
 modeOf code = cond (eqb code 0) Ecb (cond (eqb code 1) Cbc (cond (eqb code 2) Cfb (cond (eqb code 3) Ofb Ctr)))
 
+unfoldable pub modeNumber : Mode → ℕ
+modeNumber Ecb = 0
+modeNumber Cbc = 1
+modeNumber Cfb = 2
+modeNumber Ofb = 3
+modeNumber Ctr = 4
+
 unfoldable pub directionOf : Bool → Direction
 directionOf decrypting = cond decrypting Decrypt Encrypt
+
+unfoldable pub directionDecrypts : Direction → Bool
+directionDecrypts Encrypt = false
+directionDecrypts Decrypt = true
 
 -- A number above 4 is no mode, and the call is answered 12.
 unfoldable pub coded : ℕ → ℕ → ℕ
@@ -33,15 +45,23 @@ unfoldable pub openedAs : ℕ → Bool → ℕ → List ℕ → List ℕ → Ses
 openedAs code decrypting n key iv =
     cond (eqb (openedNumber code n key iv) 0) (openedSession (modeOf code) (directionOf decrypting) n key iv) refusedSession
 
--- What an opening answers and writes. Mode, direction and n the caller has.
-pub record OpenedAt (code : ℕ) (decrypting : Bool) (n : ℕ) (key iv : List ℕ) (r rounds : ℕ) (keys register : List ℕ) (units : ℕ) (closed : Bool)
-    : Type 0 where
-  pub answer : r ≡ openedNumber code n key iv
-  pub rounds-written : rounds ≡ openedAs code decrypting n key iv .rounds
-  pub keys-written : keys ≡ openedAs code decrypting n key iv .keys
-  pub register-written : register ≡ openedAs code decrypting n key iv .register
-  pub units-written : units ≡ openedAs code decrypting n key iv .units
-  pub closed-written : closed ≡ openedAs code decrypting n key iv .closed
+module _ (code : ℕ) (decrypting : Bool) (n : ℕ) (key iv : List ℕ) where
+  -- What an opening gives as a session in one piece.
+  pub record OpenedByNumber (r : Opened) : Type 0 where
+    pub answer : r .number ≡ openedNumber code n key iv
+    pub opened : r .session ≡ openedAs code decrypting n key iv
+
+  -- What it answers, and what it writes to each of the session's fields.
+  pub record OpenedAt (r mode : ℕ) (decrypts : Bool) (size rounds : ℕ) (keys register : List ℕ) (units : ℕ) (closed : Bool) : Type 0 where
+    pub answer : r ≡ openedNumber code n key iv
+    pub mode-written : mode ≡ modeNumber (openedAs code decrypting n key iv .mode)
+    pub direction-written : decrypts ≡ directionDecrypts (openedAs code decrypting n key iv .direction)
+    pub n-written : size ≡ openedAs code decrypting n key iv .n
+    pub rounds-written : rounds ≡ openedAs code decrypting n key iv .rounds
+    pub keys-written : keys ≡ openedAs code decrypting n key iv .keys
+    pub register-written : register ≡ openedAs code decrypting n key iv .register
+    pub units-written : units ≡ openedAs code decrypting n key iv .units
+    pub closed-written : closed ≡ openedAs code decrypting n key iv .closed
 
 -- ---- feed
 
@@ -57,6 +77,11 @@ held code decrypting n rounds keys register units closed =
       units = units;
       closed = closed;
     }
+
+-- The fields of a session, as an opening writes them, make that session again.
+unfoldable pub HeldAgain : Type 0
+HeldAgain =
+    (s : Session) → held (modeNumber (s .mode)) (directionDecrypts (s .direction)) (s .n) (s .rounds) (s .keys) (s .register) (s .units) (s .closed) ≡ s
 
 -- What a feed of the session s answers and writes, s being held under the mode's number `code`.
 module _ (code : ℕ) (s : Session) (input : List ℕ) (count : ℕ) (out : List ℕ) (place : ℕ) where

@@ -1,12 +1,13 @@
 // Sessions, as the crate modes answers them. The caller holds a session's fields apart. A mode is a number: 0 for ECB, 1 for
 // CBC, 2 for CFB, 3 for OFB, 4 for CTR; a number above 4 is none, and the call is answered 12.
+use modes::Opened;
 use modes::Session;
 use rules::Direction;
 use rules::Mode;
 ghost use mathlib.Core.Path.{_≡_};
-ghost use Rattle.capi.specs.Held.{modeOf, directionOf, held, OpenedAt, FedAt};
+ghost use Rattle.capi.specs.Held.{modeOf, modeNumber, directionOf, directionDecrypts, held, OpenedByNumber, OpenedAt, FedAt};
 
-fn mode_of(code: u8) -> Mode
+fn mode_of(code: usize) -> Mode
     ensures { λ r. ⌜ r ≡ modeOf code ⌝ }
 {
     if code == 0 {
@@ -24,6 +25,18 @@ fn mode_of(code: u8) -> Mode
     Mode::Ctr
 }
 
+fn mode_number(mode: Mode) -> usize
+    ensures { λ r. ⌜ r ≡ modeNumber mode ⌝ }
+{
+    match mode {
+        Mode::Ecb => 0,
+        Mode::Cbc => 1,
+        Mode::Cfb => 2,
+        Mode::Ofb => 3,
+        Mode::Ctr => 4,
+    }
+}
+
 fn direction_of(decrypting: bool) -> Direction
     ensures { λ r. ⌜ r ≡ directionOf decrypting ⌝ }
 {
@@ -34,34 +47,66 @@ fn direction_of(decrypting: bool) -> Direction
     }
 }
 
-// Writes what the opened session holds besides mode, direction and n, and gives the number.
+fn decrypts(direction: Direction) -> bool
+    ensures { λ r. ⌜ r ≡ directionDecrypts direction ⌝ }
+{
+    match direction {
+        Direction::Encrypt => false,
+        Direction::Decrypt => true,
+    }
+}
+
+// A number that is no mode's gives the refused session, as every refused opening does.
+fn open_by_number(mode: usize, decrypting: bool, n: usize, key: &[u8], iv: &[u8]) -> Opened
+    ensures { λ r. ⌜ OpenedByNumber mode decrypting n (now (key .entry)) (now (iv .entry)) r ⌝ }
+{
+    if mode > 4 {
+        let session = Session {
+            mode: Mode::Ecb,
+            direction: Direction::Encrypt,
+            n: 0,
+            rounds: 0,
+            keys: [0; 240],
+            register: [0; 16],
+            units: 0,
+            closed: true,
+        };
+        return Opened {
+            number: 12,
+            session,
+        };
+    }
+    Session::open(mode_of(mode), direction_of(decrypting), n, key, iv)
+}
+
+// Writes every field of the session that is opened, or refused, and gives the number.
 #[no_mangle]
 pub extern "C" fn conguraha_open(
-    mode: u8,
+    mode: usize,
     decrypting: bool,
     n: usize,
     key: &[u8],
     iv: &[u8],
+    held_mode: &mut usize,
+    held_decrypting: &mut bool,
+    held_n: &mut usize,
     rounds: &mut usize,
     keys: &mut [u8; 240],
     register: &mut [u8; 16],
     units: &mut u32,
     closed: &mut bool,
 ) -> u8
-    ensures { λ r. ⌜ OpenedAt mode decrypting n (now (key .entry)) (now (iv .entry)) r (now (rounds .exit)) (now (keys .exit)) (now (register .exit)) (now (units .exit)) (now (closed .exit)) ⌝ }
+    ensures { λ r. ⌜ OpenedAt mode decrypting n (now (key .entry)) (now (iv .entry)) r (now («held_mode» .exit)) (now («held_decrypting» .exit)) (now («held_n» .exit)) (now (rounds .exit)) (now (keys .exit)) (now (register .exit)) (now (units .exit)) (now (closed .exit)) ⌝ }
 {
-    if mode > 4 {
-        *rounds = 0;
-        *keys = [0; 240];
-        *register = [0; 16];
-        *units = 0;
-        *closed = true;
-        return 12;
-    }
-    let opened = Session::open(mode_of(mode), direction_of(decrypting), n, key, iv);
+    let opened = open_by_number(mode, decrypting, n, key, iv);
     let session = opened.session;
+    let opened_mode = session.mode;
+    let direction = session.direction;
     let expanded = session.keys;
     let first = session.register;
+    *held_mode = mode_number(opened_mode);
+    *held_decrypting = decrypts(direction);
+    *held_n = session.n;
     *rounds = session.rounds;
     *keys = expanded;
     *register = first;
@@ -73,7 +118,7 @@ pub extern "C" fn conguraha_open(
 // Feeds the session that the fields make, moves its register, units and closing, and gives the number.
 #[no_mangle]
 pub extern "C" fn conguraha_feed(
-    mode: u8,
+    mode: usize,
     decrypting: bool,
     n: usize,
     rounds: usize,

@@ -13,12 +13,12 @@ use Rattle.aes.specs.Steps.{bytewise, subBytes, invSubBytes, shiftRows, invShif
 use Rattle.aes.specs.KeyExpansion.{wordAt, subWord, rotWord, power, rcon, temp, nextWord, schedule, roundsFor, roundKeys}
 use Rattle.aes.specs.Cipher.{rounds, cipher as aesCipher, invRounds, invCipher, roundsOk, Enc, Dec}
 use Rattle.aes.specs.Calls.{keyOk, keyRounds, keyBytes}
-use Rattle.rules.specs.Lengths.{both}
 use Rattle.rules.specs.Rules.{msb, mask, next, cipher, plain, outOf, nextOf, unitAt, unitsIn, joined, registerAt, outAt, worked}
 use Rattle.modes.specs.Questions.{ask, bitsOk}
 use Rattle.modes.specs.Sessions.{fedText}
+use Rattle.grammar.specs.Grammar.{same}
 use Rattle.padding.specs.Padding.{zerosFor, padded, wholeBlocks, holdsOne, unpadQuestions, unpadNumber}
-use Rattle.examples.specs.Examples.{key, iv, ivEncrypted, equal, allPass, digits, examples, ExamplesPass}
+use Rattle.examples.specs.Examples.{key, iv, ivEncrypted, allPass, digits, examples, ExamplesPass}
 
 -- the key's schedule
 abbrev keys : List ℕ
@@ -70,5 +70,5 @@ unfolding encrypting
 cfb-1c = refl
 
 pub examples-pass : ExamplesPass
-unfolding ExamplesPass examples allPass equal digits xor xorBytes bit byteBits bits digit byteOf packTo bytesFor pack xorBit xorBits shiftIn number numberBytes increment double shiftAdd product square squares inverse low fromBits affine subByte both msb mask next cipher plain outOf nextOf unitAt unitsIn joined registerAt outAt worked ask bitsOk fedText zerosFor padded wholeBlocks holdsOne unpadQuestions unpadNumber
+unfolding ExamplesPass examples allPass same digits xor xorBytes bit byteBits bits digit byteOf packTo bytesFor pack xorBit xorBits shiftIn number numberBytes increment double shiftAdd product square squares inverse low fromBits affine subByte msb mask next cipher plain outOf nextOf unitAt unitsIn joined registerAt outAt worked ask bitsOk fedText zerosFor padded wholeBlocks holdsOne unpadQuestions unpadNumber
 examples-pass = rw (the-rounds, the-keys, iv-in, iv-back, cbc, cfb-8, cfb-1a, cfb-1b, cfb-1c)

@@ -1,9 +1,8 @@
 -- Document 01's twelve examples: one list of rows, one test over the list, one promise that it passes.
 use Prim.Native.Nat.{ℕ}
 use mathlib.Core.Path.{_≡_}
-use mathlib.Core.Bool.{Bool, true, false}
+use mathlib.Core.Bool.{Bool, true, false, _&&_}
 use mathlib.Core.List.{List, [], _∷_, _++_, map}
-use lib.Dec.{eqb}
 use lib.ListN.{length, replicate}
 use Rattle.bits.specs.Texts.{bits, pack, digit}
 use Rattle.bits.specs.Counter.{increment}
@@ -13,8 +12,8 @@ use Rattle.aes.specs.Cipher.{Enc, Dec}
 use Rattle.aes.specs.Calls.{keyRounds, keyBytes}
 use Rattle.rules.specs.declared.Mode.the-variants.{Cbc, Cfb}
 use Rattle.rules.specs.declared.Direction.the-variants.{Encrypt, Decrypt}
-use Rattle.rules.specs.Lengths.{both}
 use Rattle.rules.specs.Rules.{worked}
+use Rattle.grammar.specs.Grammar.{same}
 use Rattle.padding.specs.Padding.{padded, unpadNumber}
 
 -- ---- a row, and the test
@@ -24,15 +23,9 @@ pub record Row : Type 0 where
   pub given : List ℕ
   pub said : List ℕ
 
-unfoldable pub equal : List ℕ → List ℕ → Bool
-equal [] [] = true
-equal [] (y ∷ ys) = false
-equal (x ∷ xs) [] = false
-equal (x ∷ xs) (y ∷ ys) = both (eqb x y) (equal xs ys)
-
 unfoldable pub allPass : List Row → Bool
 allPass [] = true
-allPass (r ∷ rs) = both (equal (r .given) (r .said)) (allPass rs)
+allPass (r ∷ rs) = same (r .given) (r .said) && allPass rs
 
 -- ---- what the rows use
 

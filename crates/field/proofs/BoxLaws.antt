@@ -1,27 +1,24 @@
 -- The rule of the S-boxes: the inverse is the inverse, the two boxes undo each other, and a table holds a rule when one
 -- computed test over its entries says so. Assumes nothing.
-use mathlib.Core.Path.{_≡_, ap, _∙_}
-use mathlib.Core.Bool.{Bool}
+use mathlib.Core.Path.{_≡_, refl, sym, ap, _∙_}
 use mathlib.Core.List.{List}
-use Prim.Native.Nat.{ℕ, zero, suc, _+_, _*_, _/_, _%_, _^_, _<_}
+use Prim.Native.Nat.{ℕ, zero, suc, _+_, _/_, _<_}
 use native.Mathlib.Omega.{arith}
-use native.Mathlib.Nat.{zero-lt-suc}
 use lib.Dec.{T, eqb, eqb→eq}
 use lib.ListN.{length}
 use Rattle.bits.specs.Xor.{xor}
 use Rattle.bits.proofs.Tables.{agree, tabulated, entry as entry-of}
 use Rattle.field.specs.Field.{double, shiftAdd, product, square, squares, inverse}
 use Rattle.field.specs.Boxes.{low, fromBits, affine, unaffine, subByte, invSubByte, Tabulates}
+use Rattle.field.specs.Promises.{InverseOfBytes, BoxesUndoEachOther}
 use Rattle.field.proofs.FieldLaws.{product-byte}
+use Rattle.field.proofs.Inverses.{listedInverse, listed-inverse}
 
 -- The product of a byte and its inverse: 1, and 0 for 00.
 pub inverse-product : (b : ℕ) → b < 256 → product b (inverse b) ≡ (b + 255) / 256
-unfolding xor double shiftAdd product square squares inverse
-inverse-product b h = agree (λ b. product b (inverse b)) (λ b. (b + 255) / 256) 256 tt b h
-
-inverse-inverse : (b : ℕ) → b < 256 → inverse (inverse b) ≡ b
-unfolding xor double shiftAdd product square squares inverse
-inverse-inverse b h = agree (λ b. inverse (inverse b)) (λ b. b) 256 tt b h
+unfolding xor double shiftAdd product listedInverse
+inverse-product b h =
+    ap (product b) (sym (listed-inverse b h)) ∙ agree (λ b. product b (listedInverse b)) (λ b. (b + 255) / 256) 256 tt b h
 
 affine-unaffine : (b : ℕ) → b < 256 → affine (unaffine b) ≡ b
 unfolding low fromBits affine unaffine
@@ -52,6 +49,12 @@ inverse-byte : (b : ℕ) → inverse b < 256
 unfolding inverse
 inverse-byte b = squares-byte 7 b
 
+inverse-inverse : (b : ℕ) → b < 256 → inverse (inverse b) ≡ b
+unfolding listedInverse
+inverse-inverse b h =
+    sym (listed-inverse (inverse b) (inverse-byte b)) ∙ ap listedInverse (sym (listed-inverse b h))
+    ∙ agree (λ b. listedInverse (listedInverse b)) (λ b. b) 256 tt b h
+
 pub invSubByte-byte : (b : ℕ) → invSubByte b < 256
 unfolding invSubByte
 invSubByte-byte b = inverse-byte (unaffine b)
@@ -64,7 +67,32 @@ pub inv-sub : (b : ℕ) → b < 256 → invSubByte (subByte b) ≡ b
 unfolding subByte invSubByte
 inv-sub b h = ap inverse (unaffine-affine (inverse b) (inverse-byte b)) ∙ inverse-inverse b h
 
+-- ---- the promises
+
+pub inverse-of-bytes : InverseOfBytes
+unfolding xor double shiftAdd product square squares inverse
+inverse-of-bytes =
+    record { byte = inverse-byte; inverts = λ b h some. inverse-product b h ∙ omega (arith, some); of-zero = refl }
+
+pub boxes-undo-each-other : BoxesUndoEachOther
+boxes-undo-each-other =
+    record { sub-byte = subByte-byte; inv-sub-byte = invSubByte-byte; inv-sub = inv-sub; sub-inv = sub-inv }
+
+-- ---- a table
+
 pub tabulates : (f : ℕ → ℕ) (table : List ℕ) → T (eqb (length table) 256) → T (tabulated f table) → Tabulates f table
 tabulates f table s t =
     let e : length table ≡ 256 = eqb→eq (length table) 256 s in
     record { entries = e; entry = λ b h. entry-of f table t b (omega arith) }
+
+-- the rules by the listed inverses
+pub listed-sub : (b : ℕ) → b < 256 → affine (listedInverse b) ≡ subByte b
+unfolding subByte
+listed-sub b h = ap affine (listed-inverse b h)
+
+pub listed-inv-sub : (b : ℕ) → listedInverse (unaffine b) ≡ invSubByte b
+unfolding invSubByte
+listed-inv-sub b = listed-inverse (unaffine b) (unaffine-byte b)
+
+pub tabulates-too : {f g : ℕ → ℕ} {table : List ℕ} → Tabulates f table → ((b : ℕ) → b < 256 → f b ≡ g b) → Tabulates g table
+tabulates-too tab e = record { entries = tab .entries; entry = λ b h. tab .entry b h ∙ e b h }

@@ -1,6 +1,7 @@
 -- Laws about the definitions of specs/, a file to a subject.
 pub mod FieldLaws
 pub mod Linear
+pub mod Inverses
 pub mod BoxLaws
 pub mod Fours
 pub mod RowLaws

@@ -1,7 +1,7 @@
 -- Two maps that go through XOR agree at every byte when they agree at the eight bytes with one digit. Assumes nothing.
-use mathlib.Core.Path.{_≡_, refl, sym, ap, ap₂, _∙_}
+use mathlib.Core.Path.{_≡_, sym, ap, ap₂, _∙_}
 use Prim.Native.Nat.{ℕ, zero, suc, _+_, _*_, _/_, _%_, _^_, _<_}
-use native.Mathlib.Nat.{zero-lt-suc, mod-lt, div-add-mod', zero-mul, one-mul, zero-add, add-zero, pow-suc, div-lt-iff-lt-mul, mod-eq-of-lt, le-of-suc-le-suc, not-suc-le-zero, mul-comm, le-step, lt-suc-self, lt-trans}
+use native.Mathlib.Nat.{mod-lt, div-add-mod', zero-mul, one-mul, zero-add, add-zero, pow-suc, div-lt-iff-lt-mul, le-of-suc-le-suc, not-suc-le-zero, mul-comm, le-step, lt-suc-self}
 use native.Mathlib.Omega.{arith}
 use lib.Pow.{pow-pos}
 use Rattle.bits.specs.Xor.{xor}

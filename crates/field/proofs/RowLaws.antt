@@ -2,10 +2,10 @@
 -- its bytes. Assumes nothing.
 use mathlib.Core.Path.{_≡_, refl, sym, ap, ap₂, _∙_}
 use mathlib.Core.List.{List, [], _∷_, map}
-use Prim.Native.Nat.{ℕ, zero, suc, _+_, _*_, _/_, _%_, _^_, _<_}
+use Prim.Native.Nat.{ℕ, _+_, _*_, _/_, _%_, _^_, _<_}
 use native.Mathlib.Nat.{div-one, div-div-eq-div-mul}
 use native.Mathlib.Omega.{arith}
-use lib.Bits.{bitAnd, bitXor, and-block, and-high, and-lt}
+use lib.Bits.{bitAnd, bitXor, and-block, and-high}
 use Rattle.bits.specs.Xor.{xor}
 use Rattle.bits.specs.Counter.{number, numberBytes}
 use Rattle.bits.proofs.Xor as Xor

@@ -1,6 +1,6 @@
 -- SubBytes of one byte and its inverse, by their rule and not by a table (document 01, "The block cipher"; FIPS 197
 -- sections 5.1.1 and 5.3.2), and what it is for a table to hold a rule.
-use Prim.Native.Nat.{ℕ, zero, suc, _+_, _*_, _/_, _%_, _^_, _<_}
+use Prim.Native.Nat.{ℕ, _+_, _*_, _/_, _%_, _^_, _<_}
 use mathlib.Core.Path.{_≡_}
 use mathlib.Core.List.{List}
 use lib.ListN.{length, getD}

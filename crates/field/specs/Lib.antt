@@ -2,3 +2,4 @@
 pub mod Field
 pub mod Boxes
 pub mod Rows
+pub mod Promises

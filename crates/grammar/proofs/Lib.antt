@@ -4,3 +4,7 @@ pub mod ScanLaws
 pub mod WordLaws
 pub mod DigitLaws
 pub mod LineLaws
+pub mod SizeLaws
+pub mod ReadingLaws
+pub mod EndedLaws
+pub mod ExactLaws

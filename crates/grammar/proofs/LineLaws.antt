@@ -7,14 +7,15 @@ use Prim.Native.Nat.{ℕ, _+_, _-_, _%_, _≤_, _<_}
 use native.Mathlib.Nat.{le-of-lt, le-of-eq, add-assoc}
 use native.Mathlib.Omega.{arith}
 use mathlib.Core.Bool.{true, false}
-use borrow.Author.Tests.{lt-ltb, le-ltb, eq-eqb, ne-eqb}
+use borrow.Author.Tests.{leb-true, lt-ltb, le-ltb, eq-eqb, ne-eqb}
 use lib.Dec.{leb, eqb}
 use lib.ListN.{length, take, drop, length-drop}
 use lib.Seq.{length-take-le, take-all, drop-drop}
 use Rattle.grammar.specs.Texts.{given, upTo, Cut, cut, all, isHex}
 use Rattle.grammar.specs.declared.form.Digits.{Digits}
-use Rattle.grammar.specs.Grammar.{HexLine, hexLine}
+use Rattle.grammar.specs.Grammar.{HexLine, digitsFit, hexLine}
 use Rattle.grammar.specs.Answers.{bytesAt, lineIn, LineFits, LineRead}
+use Rattle.grammar.proofs.RangeLaws.{and-first}
 
 -- a part that is lent from a place to the end
 pub part-rest : (s : List ℕ) (a : ℕ) → take (length s - a) (drop a s) ≡ drop a s
@@ -29,10 +30,21 @@ module _ (stop : ℕ) (s : List ℕ) (len : ℕ) (e : len ≡ upTo stop s) where
   unfolding cut
   cut-some h = rw (e, lt-ltb (upTo stop s) (length s) (rw e at h))
 
+pub fit-size : (limit : ℕ) (w : List ℕ) → digitsFit limit w ≡ true → length w ≤ limit
+fit-size limit w e =
+    let even = eqb (length w % 2) 0 in
+    leb-true (length w) limit (and-first (leb (length w) limit) even (and-first (leb (length w) limit && even) (all isHex w) e))
+
 -- ---- a line of digits, `len` bytes from `start` on: `rest` is the part that was searched
 
-abbrev rest : List ℕ → ℕ → List ℕ
+abbrev pub rest : List ℕ → ℕ → List ℕ
 rest s start = take (length s - start) (drop start s)
+
+pub rest-inside : (s : List ℕ) (start len : ℕ) → len < length (rest s start) → start + len < length s
+rest-inside s start len h = omega (arith, simp (part-rest, length-drop) at h)
+
+pub fit-front : (limit : ℕ) (s : List ℕ) (len : ℕ) → digitsFit limit (take len s) ≡ true → len < length s → len ≤ limit
+fit-front limit s len fit h = rw (length-take-le len s (le-of-lt h)) at (fit-size limit (take len s) fit)
 
 module _ (limit : ℕ) (s : List ℕ) (start len : ℕ) (e : len ≡ upTo 10 (rest s start)) where
   found : len ≡ upTo 10 (drop start s)
@@ -44,15 +56,11 @@ module _ (limit : ℕ) (s : List ℕ) (start len : ℕ) (e : len ≡ upTo 10 (re
 
   pub hexLine-is : len < length (rest s start)
       → hexLine limit (drop start s)
-      ≡ given (leb len limit && eqb (len % 2) 0 && all isHex (take len (drop start s)))
-      (record { bytes = bytesAt s start len; behind = drop (start + len + 1) s })
+      ≡ given (digitsFit limit (take len (drop start s))) (record { bytes = bytesAt s start len; behind = drop (start + len + 1) s })
   unfolding hexLine
   hexLine-is h =
       let inside : len < length (drop start s) = rw part-rest at h in
-      rw (cut-some 10 (drop start s) len found inside, length-take-le len (drop start s) (le-of-lt inside), drop-drop, add-assoc)
-
-  pub line-inside : len < length (rest s start) → start + len < length s
-  line-inside h = omega (arith, simp (part-rest, length-drop) at h)
+      rw (cut-some 10 (drop start s) len found inside, drop-drop, add-assoc)
 
 -- ---- what the answers tell
 

@@ -7,11 +7,11 @@ use borrow.Author.Tests.{leb-true}
 use lib.Dec.{leb}
 use Rattle.grammar.specs.Texts.{between, value}
 
-and-first : (a b : Bool) → (a && b) ≡ true → a ≡ true
+pub and-first : (a b : Bool) → (a && b) ≡ true → a ≡ true
 and-first true b e = refl
 and-first false b e = e
 
-and-second : (a b : Bool) → (a && b) ≡ true → b ≡ true
+pub and-second : (a b : Bool) → (a && b) ≡ true → b ≡ true
 and-second true b e = e
 and-second false true e = refl
 and-second false false e = e

@@ -69,12 +69,15 @@ pub record HexLine : Type 0 where
   pub bytes : List ℕ
   pub behind : List ℕ
 
+-- An even count of digits, at most so many.
+abbrev pub digitsFit : ℕ → List ℕ → Bool
+digitsFit limit w = leb (length w) limit && eqb (length w % 2) 0 && all isHex w
+
 -- The line that a text begins with, as bytes, and what follows the line.
 unfoldable pub hexLine : ℕ → List ℕ → Option HexLine
 hexLine limit s = do
   line ← cut 10 s
-  given (leb (length (line .before)) limit && eqb (length (line .before) % 2) 0 && all isHex (line .before))
-      (record { bytes = hexBytes (line .before); behind = line .behind })
+  given (digitsFit limit (line .before)) (record { bytes = hexBytes (line .before); behind = line .behind })
 
 -- ---- the whole text
 

@@ -1,10 +1,11 @@
 -- Texts as lists of bytes (ASCII): the pieces before and behind a byte, digits, and numbers written in them.
 use Prim.Native.Nat.{ℕ, suc, _+_, _-_, _*_, _/_, _%_}
 use mathlib.Core.Bool.{Bool, true, false, cond, _&&_, _||_}
-use mathlib.Core.List.{List, [], _∷_}
+use mathlib.Core.List.{List, [], _∷_, _++_}
 use mathlib.Core.Option.{Option, none, some}
 use lib.Dec.{leb, ltb, eqb}
 use lib.ListN.{length, take, drop}
+use lib.Seq.{paste}
 
 -- The value where a test holds, and then what is made of it.
 abbrev pub given : {A : Type 0} → Bool → A → Option A
@@ -71,6 +72,13 @@ hexBytes (a ∷ b ∷ s) = (value a * 16 + value b) ∷ hexBytes s
 unfoldable pub hexText : List ℕ → List ℕ
 hexText [] = []
 hexText (b ∷ s) = digit (b / 16) ∷ digit (b % 16) ∷ hexText s
+
+-- Written to the front of `out`, or from a place on, where there is room for all of it; else `out` stays as it was.
+unfoldable pub decodedInto : List ℕ → List ℕ → List ℕ
+decodedInto s out = cond (leb (length s / 2) (length out)) (hexBytes s ++ drop (length s / 2) out) out
+
+unfoldable pub encodedInto : List ℕ → List ℕ → ℕ → List ℕ
+encodedInto bytes out at = cond (leb (at + length bytes * 2) (length out)) (paste out at (hexText bytes) (length bytes * 2)) out
 
 -- A number below 100 in decimal.
 unfoldable pub decimalText : ℕ → List ℕ

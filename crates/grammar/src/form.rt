@@ -1,7 +1,7 @@
 // The four lines.
 use crate::header::Header;
 use crate::header::first_line;
-use crate::hex::all_digits;
+use crate::hex::digits_fit;
 use crate::scan::up_to;
 use rules::Direction;
 use rules::Mode;
@@ -42,13 +42,7 @@ fn digits_line(s: &[u8], start: usize, limit: usize) -> Digits
     if rest.len() <= len {
         return Digits::Bad;
     }
-    if limit < len {
-        return Digits::Bad;
-    }
-    if len % 2 != 0 {
-        return Digits::Bad;
-    }
-    if !all_digits(&rest[..len]) {
+    if !digits_fit(&rest[..len], limit) {
         return Digits::Bad;
     }
     Digits::Line {

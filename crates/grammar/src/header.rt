@@ -48,7 +48,7 @@ fn spells(word: &[u8], a: u8, b: u8, c: u8) -> bool
     word[2] == c
 }
 
-fn mode_word(word: &[u8]) -> ModeWord
+pub fn mode_word(word: &[u8]) -> ModeWord
     ensures { λ r. ⌜ modeIn r ≡ modeOf (now (word .entry)) ⌝ }
 {
     if spells(word, b'E', b'C', b'B') {
@@ -69,7 +69,7 @@ fn mode_word(word: &[u8]) -> ModeWord
     ModeWord::Bad
 }
 
-fn direction_word(word: &[u8]) -> DirectionWord
+pub fn direction_word(word: &[u8]) -> DirectionWord
     ensures { λ r. ⌜ directionIn r ≡ directionOf (now (word .entry)) ⌝ }
 {
     if word.len() != 1 {

@@ -1,11 +1,10 @@
 // Lower-case hexadecimal, to bytes and back.
 use crate::scan::between;
 ghost use mathlib.Core.Path.{_≡_};
-ghost use mathlib.Core.List.{_++_};
-ghost use Prim.Native.Nat.{_+_, _*_, _/_, _≤_, _<_};
-ghost use lib.ListN.{length, getD, drop};
-ghost use lib.Seq.{paste};
-ghost use Rattle.grammar.specs.Texts.{isHex, all, value, digit, hexBytes, hexText};
+ghost use Prim.Native.Nat.{_+_, _*_, _<_};
+ghost use lib.ListN.{length, getD};
+ghost use Rattle.grammar.specs.Texts.{isHex, all, value, digit, decodedInto, encodedInto};
+ghost use Rattle.grammar.specs.Grammar.{digitsFit};
 
 // What a digit counts; 0 for any other byte.
 fn value(b: u8) -> u8
@@ -43,6 +42,19 @@ pub fn all_digits(s: &[u8]) -> bool
     true
 }
 
+// Is the word an even count of digits, at most `limit`?
+pub fn digits_fit(word: &[u8], limit: usize) -> bool
+    ensures { λ r. ⌜ r ≡ digitsFit limit (now (word .entry)) ⌝ }
+{
+    if limit < word.len() {
+        return false;
+    }
+    if word.len() % 2 != 0 {
+        return false;
+    }
+    all_digits(word)
+}
+
 // The byte of the two digits at i.
 fn pair(s: &[u8], i: usize) -> u8
     requires { ⌜ i + 1 < length (now s) ⌝ }
@@ -51,12 +63,14 @@ fn pair(s: &[u8], i: usize) -> u8
     value(s[i]) * 16 + value(s[i + 1])
 }
 
-// Writes the bytes of the digits to the front of out, two digits to a byte.
+// Writes the bytes of the digits to the front of out, two digits to a byte; nothing where there is no room for all.
 pub fn decode(s: &[u8], out: &mut [u8])
-    requires { ⌜ length (now s) ≤ length (now out) * 2 ⌝ }
-    ensures { λ _. ⌜ now (out .exit) ≡ hexBytes (now (s .entry)) ++ drop (length (now (s .entry)) / 2) (now (out .entry)) ⌝ }
+    ensures { λ _. ⌜ now (out .exit) ≡ decodedInto (now (s .entry)) (now (out .entry)) ⌝ }
 {
     let count = s.len() / 2;
+    if out.len() < count {
+        return;
+    }
     let mut i = 0;
     while i < count {
         out[i] = pair(s, i * 2);
@@ -72,11 +86,16 @@ fn digit(x: u8) -> u8
     if x <= 9 { b'0' + x } else { b'a' - 10 + x }
 }
 
-// Writes two digits for each byte, from out[at] on.
+// Writes two digits for each byte, from out[at] on; nothing where there is no room for all.
 pub fn encode(bytes: &[u8], out: &mut [u8], at: usize)
-    requires { ⌜ at + length (now bytes) * 2 ≤ length (now out) ⌝ }
-    ensures { λ _. ⌜ now (out .exit) ≡ paste (now (out .entry)) at (hexText (now (bytes .entry))) (length (now (bytes .entry)) * 2) ⌝ }
+    ensures { λ _. ⌜ now (out .exit) ≡ encodedInto (now (bytes .entry)) (now (out .entry)) at ⌝ }
 {
+    if out.len() < at {
+        return;
+    }
+    if (out.len() - at) / 2 < bytes.len() {
+        return;
+    }
     let mut i = 0;
     while i < bytes.len() {
         let b = bytes[i];

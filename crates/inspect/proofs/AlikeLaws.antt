@@ -1,7 +1,7 @@
 -- The test of `alike` says what it means, both ways. Assumes nothing.
 use Prim.Native.Nat.{ℕ, zero, suc, _≤_}
 use mathlib.Core.Path.{_≡_, refl, sym, ap, _∙_}
-use mathlib.Core.Bool.{true}
+use mathlib.Core.Bool.{true, and-eq-true-iff}
 use mathlib.Core.List.{List}
 use native.Mathlib.Nat.{le-of-eq}
 use native.Mathlib.Omega.{arith}
@@ -13,10 +13,10 @@ use Rattle.rules.specs.declared.Mode.the-variants.{Ecb, Cbc, Cfb, Ofb, Ctr}
 use Rattle.rules.specs.declared.Direction.{Direction}
 use Rattle.rules.specs.declared.Direction.the-variants.{Encrypt, Decrypt}
 use Rattle.modes.specs.declared.session.Session.{Session}
-use Rattle.modes.proofs.QuestionLaws.{both-true}
 use Rattle.inspect.specs.Alike.{keysUsed, Alike, modeIndex, directionIndex, sameSettings, alikeTo}
-use Rattle.inspect.specs.Promises.{Sizes, AlikeExactly}
-use Rattle.inspect.proofs.SameLaws.{same-means, means-same, both-is}
+use Rattle.modes.specs.Sessions.{Arrays}
+use Rattle.inspect.specs.Promises.{AlikeExactly}
+use Rattle.inspect.proofs.SameLaws.{same-means, means-same}
 
 -- ---- modes and directions by their numbers
 
@@ -54,31 +54,35 @@ whole : (r : List ℕ) → length r ≡ 16 → take 16 r ≡ r
 whole r e = take-all 16 r (le-of-eq e)
 
 module _ (a b : Session) where
-  test-means : Sizes a → Sizes b → alikeTo a b ≡ true → Alike a b
+  test-means : Arrays a → Arrays b → alikeTo a b ≡ true → Alike a b
   unfolding alikeTo sameSettings
   test-means sa sb e =
-      let (settings, bytes) = both-true _ _ e in
-      let (mode, e1) = both-true _ _ settings in
-      let (direction, e2) = both-true _ _ e1 in
-      let (unit, rounds) = both-true _ _ e2 in
-      let (keys, register) = both-true _ _ bytes in
+      let (most, register) = and-eq-true-iff _ _ .0 e in
+      let (settings, keys) = and-eq-true-iff _ _ .0 most in
+      let (e1, rounds) = and-eq-true-iff _ _ .0 settings in
+      let (e2, unit) = and-eq-true-iff _ _ .0 e1 in
+      let (mode, direction) = and-eq-true-iff _ _ .0 e2 in
       let used = keys-inside (a .rounds) in
       record {
         mode = sym (mode-of (a .mode)) ∙ ap modeOf (eqb-true _ _ mode) ∙ mode-of (b .mode);
         direction = sym (direction-of (a .direction)) ∙ ap directionOf (eqb-true _ _ direction) ∙ direction-of (b .direction);
         unit = eqb-true _ _ unit;
         rounds = eqb-true _ _ rounds;
-        keys = same-means (a .keys) (b .keys) (keysUsed (a .rounds)) (omega (arith, sa .keys)) (omega (arith, sb .keys)) keys;
-        register = sym (whole (a .register) (sa .register)) ∙ same-means (a .register) (b .register) 16 (omega (arith, sa .register)) (omega (arith, sb .register)) register ∙ whole (b .register) (sb .register);
+        keys = same-means (a .keys) (b .keys) (keysUsed (a .rounds)) (omega (arith, sa .keys-size)) (omega (arith, sb .keys-size)) keys;
+        register = sym (whole (a .register) (sa .register .size)) ∙ same-means (a .register) (b .register) 16 (omega (arith, sa .register .size)) (omega (arith, sb .register .size)) register ∙ whole (b .register) (sb .register .size);
       }
 
   means-test : Alike a b → alikeTo a b ≡ true
   unfolding alikeTo sameSettings
   means-test h =
-      both-is _ _
-      (both-is _ _ (eq-eqb _ _ (ap modeIndex (h .mode)))
-      (both-is _ _ (eq-eqb _ _ (ap directionIndex (h .direction))) (both-is _ _ (eq-eqb _ _ (h .unit)) (eq-eqb _ _ (h .rounds)))))
-      (both-is _ _ (means-same (a .keys) (b .keys) (keysUsed (a .rounds)) (h .keys)) (means-same (a .register) (b .register) 16 (ap (take 16) (h .register))))
+      rw (
+        eq-eqb _ _ (ap modeIndex (h .mode)),
+        eq-eqb _ _ (ap directionIndex (h .direction)),
+        eq-eqb _ _ (h .unit),
+        eq-eqb _ _ (h .rounds),
+        means-same (a .keys) (b .keys) (keysUsed (a .rounds)) (h .keys),
+        means-same (a .register) (b .register) 16 (ap (take 16) (h .register)),
+      )
 
 pub alike-exactly : AlikeExactly
 unfolding AlikeExactly

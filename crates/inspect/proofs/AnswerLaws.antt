@@ -1,7 +1,7 @@
 -- What `decrypt_block` answers: where the number is 0 and where it is not. Assumes nothing.
 use Prim.Native.Nat.{ℕ, _-_, _≤_}
 use mathlib.Core.Path.{_≡_, sym, _∙_}
-use mathlib.Core.Bool.{true, false}
+use mathlib.Core.Bool.{true, false, and-eq-true-iff}
 use mathlib.Core.List.{List, _++_}
 use native.Mathlib.Nat.{le-of-eq}
 use borrow.Author.Tests.{leb-true, eq-eqb, ne-eqb}
@@ -16,7 +16,6 @@ use Rattle.aes.specs.Cipher.{Dec}
 use Rattle.aes.specs.Calls.{keyRounds, keyBytes, decrypted}
 use Rattle.modes.specs.Questions.{roomOk}
 use Rattle.modes.specs.Sessions.{written}
-use Rattle.modes.proofs.QuestionLaws.{both-true}
 use Rattle.modes.proofs.AnswerLaws.{part-written}
 use Rattle.modes.proofs.WorkLaws.{part-all}
 use Rattle.inspect.specs.Single.{blockAt, neighbourOf, plainBlock, singleNumber, SingleBy}
@@ -24,7 +23,7 @@ use Rattle.inspect.specs.Single.{blockAt, neighbourOf, plainBlock, singl
 pub room-there : (size place : ℕ) → roomOk size place 16 ≡ true → (place ≤ size) × (16 ≤ size - place)
 unfolding roomOk
 room-there size place e =
-    let (inside, enough) = both-true (leb place size) (leb 16 (size - place)) e in
+    let (inside, enough) = and-eq-true-iff (leb place size) (leb 16 (size - place)) .0 e in
     (leb-true place size inside, leb-true 16 (size - place) enough)
 
 module _ (key iv text : List ℕ) (j : ℕ) (out : List ℕ) (place : ℕ) where

@@ -1,7 +1,7 @@
 -- Questions 1, 2, 11 and 8 in their order: the number at each 'no', and what the number 0 grants. Assumes nothing.
 use Prim.Native.Nat.{ℕ, suc, _*_, _/_, _%_, _≤_, _<_}
 use mathlib.Core.Path.{_≡_}
-use mathlib.Core.Bool.{Bool, true, false, cond}
+use mathlib.Core.Bool.{Bool, true, false, cond, and-eq-true-iff}
 use mathlib.Core.List.{List}
 use native.Mathlib.Omega.{arith}
 use borrow.Author.Tests.{ltb-true, eqb-true}
@@ -10,7 +10,7 @@ use lib.ListN.{length}
 use Rattle.aes.specs.Calls.{keyOk}
 use Rattle.rules.specs.declared.Mode.the-variants.{Cbc}
 use Rattle.modes.specs.Questions.{ask, ivOk, roomOk}
-use Rattle.modes.proofs.QuestionLaws.{first-yes, both-true}
+use Rattle.modes.proofs.QuestionLaws.{first-yes}
 use Rattle.inspect.specs.Single.{blockOk, neighbourQuestions, singleQuestions, singleNumber}
 
 -- ---- the neighbour's questions
@@ -34,7 +34,7 @@ iv-length iv e = eqb-true (length iv) 16 e
 pub block-there : (bytes j : ℕ) → blockOk bytes j ≡ true → (bytes % 16 ≡ 0) × (suc j * 16 ≤ bytes)
 unfolding blockOk
 block-there bytes j e =
-    let (whole, inside) = both-true (eqb (bytes % 16) 0) (ltb j (bytes / 16)) e in
+    let (whole, inside) = and-eq-true-iff (eqb (bytes % 16) 0) (ltb j (bytes / 16)) .0 e in
     let below : j < bytes / 16 = ltb-true j (bytes / 16) inside in
     (eqb-true (bytes % 16) 0 whole, omega arith)
 

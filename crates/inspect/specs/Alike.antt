@@ -1,7 +1,7 @@
 -- Document 01, "Padding, one block, comparison": when two sessions are alike, as a test and as what it means.
 use Prim.Native.Nat.{ℕ, zero, suc, _+_, _*_, min}
 use mathlib.Core.Path.{_≡_}
-use mathlib.Core.Bool.{Bool, true}
+use mathlib.Core.Bool.{Bool, true, _&&_}
 use mathlib.Core.List.{List}
 use lib.Dec.{eqb}
 use lib.ListN.{getD, take}
@@ -9,7 +9,6 @@ use Rattle.rules.specs.declared.Mode.{Mode}
 use Rattle.rules.specs.declared.Mode.the-variants.{Ecb, Cbc, Cfb, Ofb, Ctr}
 use Rattle.rules.specs.declared.Direction.{Direction}
 use Rattle.rules.specs.declared.Direction.the-variants.{Encrypt, Decrypt}
-use Rattle.rules.specs.Lengths.{both}
 use Rattle.modes.specs.declared.session.Session.{Session}
 
 -- The first 16 × (rounds + 1) round key bytes, at most 240.
@@ -41,13 +40,13 @@ directionIndex Decrypt = 1
 -- Do two lists have the same first k bytes?
 unfoldable pub sameFirst : ℕ → List ℕ → List ℕ → Bool
 sameFirst zero a b = true
-sameFirst (suc k) a b = both (eqb (getD a k 0) (getD b k 0)) (sameFirst k a b)
+sameFirst (suc k) a b = eqb (getD a k 0) (getD b k 0) && sameFirst k a b
 
 unfoldable pub sameSettings : Session → Session → Bool
 sameSettings a b =
-    both (eqb (modeIndex (a .mode)) (modeIndex (b .mode)))
-    (both (eqb (directionIndex (a .direction)) (directionIndex (b .direction))) (both (eqb (a .n) (b .n)) (eqb (a .rounds) (b .rounds))))
+    eqb (modeIndex (a .mode)) (modeIndex (b .mode)) && eqb (directionIndex (a .direction)) (directionIndex (b .direction))
+    && eqb (a .n) (b .n) && eqb (a .rounds) (b .rounds)
 
 unfoldable pub alikeTo : Session → Session → Bool
 alikeTo a b =
-    both (sameSettings a b) (both (sameFirst (keysUsed (a .rounds)) (a .keys) (b .keys)) (sameFirst 16 (a .register) (b .register)))
+    sameSettings a b && sameFirst (keysUsed (a .rounds)) (a .keys) (b .keys) && sameFirst 16 (a .register) (b .register)

@@ -3,7 +3,7 @@ use Prim.Native.Nat.{ℕ, _*_}
 use mathlib.Core.Path.{_≡_}
 use mathlib.Core.Logic.{_↔_}
 use mathlib.Core.Bool.{true}
-use mathlib.Core.List.{List}
+use mathlib.Core.List.{List, []}
 use lib.ListN.{length, take, drop}
 use Rattle.bits.specs.Texts.{bits}
 use Rattle.bits.specs.Blocks.{Bytes}
@@ -13,8 +13,9 @@ use Rattle.rules.specs.Rules.{unitAt}
 use Rattle.modes.specs.declared.session.Session.{Session}
 use Rattle.modes.specs.declared.session.Opened.{Opened}
 use Rattle.modes.specs.declared.session.Fed.{Fed}
-use Rattle.modes.specs.Sessions.{OpenedBy, FedBy, sessionText}
-use Rattle.inspect.specs.Single.{blockAt, blockOk, plainBlock, SingleBy}
+use Rattle.modes.specs.Questions.{ask}
+use Rattle.modes.specs.Sessions.{Arrays, OpenedBy, FedBy, sessionText}
+use Rattle.inspect.specs.Single.{blockAt, blockOk, neighbourQuestions, neighbourAnswer, plainBlock, SingleBy}
 use Rattle.inspect.specs.Alike.{Alike, alikeTo}
 
 -- For every j the single block is block j of what a whole decrypting CBC feed of the ciphertext gives.
@@ -31,11 +32,19 @@ BlockByTheCalls =
     → (out′ : List ℕ) (place′ number : ℕ) (after′ : List ℕ) → SingleBy key iv text j out′ place′ number after′ → number ≡ 0
     → take 16 (drop place′ after′) ≡ blockAt (drop place after) j
 
--- What a session's type says of its arrays, and a contract's lists do not: 240 round key bytes and 16 register bytes.
-pub record Sizes (s : Session) : Type 0 where
-  pub keys : length (s .keys) ≡ 240
-  pub register : length (s .register) ≡ 16
+-- Refused means unchanged.
+unfoldable pub BlockRefusedUnchanged : Type 0
+BlockRefusedUnchanged =
+    (key iv text : List ℕ) (j : ℕ) (out : List ℕ) (place number : ℕ) (after : List ℕ) → SingleBy key iv text j out place number after
+    → (number ≡ 0 → ⊥) → after ≡ out
 
--- The test's 'yes' is 'alike', both ways, for sessions with any numbers in them.
+-- An empty neighbour is a refused one: one that is not refused has 16 bytes.
+unfoldable pub EmptyIsRefused : Type 0
+EmptyIsRefused =
+    (iv text : List ℕ) (j : ℕ)
+    → (ask (neighbourQuestions iv text j) ≡ 0 → length (neighbourAnswer iv text j) ≡ 16)
+    × ((ask (neighbourQuestions iv text j) ≡ 0 → ⊥) → neighbourAnswer iv text j ≡ [])
+
+-- The test's 'yes' is 'alike', both ways.
 unfoldable pub AlikeExactly : Type 0
-AlikeExactly = (a b : Session) → Sizes a → Sizes b → (alikeTo a b ≡ true) ↔ Alike a b
+AlikeExactly = (a b : Session) → Arrays a → Arrays b → (alikeTo a b ≡ true) ↔ Alike a b

@@ -1,7 +1,7 @@
 -- Document 01, "Padding, one block, comparison": the CBC neighbour and the CBC single block, for all arguments.
 use Prim.Native.Nat.{ℕ, zero, suc, _*_, _/_, _%_}
 use mathlib.Core.Path.{_≡_}
-use mathlib.Core.Bool.{Bool, cond}
+use mathlib.Core.Bool.{Bool, cond, _&&_}
 use mathlib.Core.List.{List, [], _∷_}
 use lib.Dec.{eqb, ltb}
 use lib.ListN.{length, take, drop}
@@ -9,7 +9,6 @@ use Rattle.bits.specs.Xor.{xorBytes}
 use Rattle.bits.specs.Texts.{bits}
 use Rattle.aes.specs.Calls.{keyOk, decrypted}
 use Rattle.rules.specs.declared.Mode.the-variants.{Cbc}
-use Rattle.rules.specs.Lengths.{both}
 use Rattle.modes.specs.Questions.{Question, ask, ivOk, roomOk}
 use Rattle.modes.specs.Sessions.{written}
 
@@ -19,7 +18,7 @@ blockAt text j = take 16 (drop (j * 16) text)
 
 -- Question 11: are so many ciphertext bytes a multiple of 16, with j below the number of blocks?
 unfoldable pub blockOk : ℕ → ℕ → Bool
-blockOk bytes j = both (eqb (bytes % 16) 0) (ltb j (bytes / 16))
+blockOk bytes j = eqb (bytes % 16) 0 && ltb j (bytes / 16)
 
 -- ---- the neighbour
 

@@ -32,7 +32,11 @@ fn direction_index(direction: Direction) -> u8
 fn keys_used(rounds: usize) -> usize
     ensures { λ r. ⌜ r ≡ keysUsed rounds ⌝ }
 {
-    if rounds < 14 { 16 * (rounds + 1) } else { 240 }
+    if rounds < 14 {
+        Session::BLOCK * (rounds + 1)
+    } else {
+        240
+    }
 }
 
 fn same_first(a: &[u8], b: &[u8], count: usize) -> bool
@@ -81,5 +85,5 @@ pub fn alike(a: Session, b: Session) -> bool
     }
     let register = a.register;
     let other_register = b.register;
-    same_first(&register, &other_register, 16)
+    same_first(&register, &other_register, Session::BLOCK)
 }

@@ -6,6 +6,8 @@ ghost use Rattle.aes.specs.Cipher.{Dec};
 ghost use Rattle.modes.specs.Questions.{ask};
 ghost use Rattle.inspect.specs.Single.{blockAt, blockOk, neighbourOf, neighbourQuestions, neighbourAnswer, SingleBy};
 
+const BLOCK_BITS: usize = 8 * Session::BLOCK;
+
 // Question 11.
 fn block_ok(bytes: usize, j: usize) -> bool
     ensures { λ r. ⌜ r ≡ blockOk bytes j ⌝ }
@@ -57,8 +59,8 @@ fn plain_block<'a>(
     ensures { λ r. ⌜ r ≡ xorBytes (Dec rounds (now (keys .entry)) (blockAt (now (text .entry)) j)) (neighbourOf (now (iv .entry)) (now (text .entry)) j) ⌝ }
 {
     let start = j * Session::BLOCK;
-    let block = bits::window(&text[start..], 0, 128);
-    let before = bits::window(neighbour(iv, text, j), 0, 128);
+    let block = bits::window(&text[start..], 0, BLOCK_BITS);
+    let before = bits::window(neighbour(iv, text, j), 0, BLOCK_BITS);
     bits::xor_block(aes::decrypt_block(rounds, keys, block), before)
 }
 
@@ -86,6 +88,6 @@ pub fn decrypt_block<'a>(
     }
     let keys = schedule.keys;
     let plain = plain_block(schedule.rounds, &keys, iv, text, j);
-    bits::put_bits(&mut out[place..], 0, plain, 128);
+    bits::put_bits(&mut out[place..], 0, plain, BLOCK_BITS);
     0
 }

@@ -1,4 +1,8 @@
 // Pad and unpad.
+use modes::Session;
+
+// The bytes of the largest feed.
+const BYTES: usize = Session::MAX_BITS / 8;
 
 // A pad into 40 bytes of ee: its number, the padded text's bits, and the output.
 fn pad(name: &[u8], input: &[u8], bits: usize, place: usize) {
@@ -56,17 +60,25 @@ fn more_bits_than_input() {
     pad(b"pad the largest count", input, 18446744073709551615, 0);
 }
 
-// The longest text, and a bit more; the output's first and last bytes.
-fn longest(name: &[u8], bits: usize, place: usize) {
-    let input = [0xfeu8; 65537];
-    let mut out = [0xeeu8; 65540];
+// A pad, out of a byte more than the largest feed has; the output's first and last bytes.
+fn long_pad(name: &[u8], bits: usize, place: usize) {
+    let input = [0xfeu8; BYTES + 1];
+    let mut out = [0xeeu8; BYTES + 4];
     let padded = padding::pad(&input, bits, &mut out, place);
     show::label(name);
     show::number(padded.number as u64);
     show::number(padded.bits as u64);
     show::bytes(&out[0..6]);
-    show::bytes(&out[65532..65540]);
+    show::bytes(&out[BYTES - 4..BYTES + 4]);
     show::end();
+}
+
+fn largest_pads() {
+    let most = Session::MAX_BITS - 1;
+    long_pad(b"pad the largest text", most, 4);
+    long_pad(b"pad the largest text, no room", most, 5);
+    long_pad(b"pad a bit more", most + 1, 4);
+    long_pad(b"pad a bit more, no room", most + 1, 5);
 }
 
 fn unpads() {
@@ -97,24 +109,21 @@ fn more_unpads() {
     unpad(b"unpad the largest count", &ones, 18446744073709551615);
 }
 
-fn longest_unpads() {
-    let zeros = [0u8; 65552];
-    let ones = [0xffu8; 65552];
-    unpad(b"unpad 524288 bits, all 0", &zeros, 524288);
-    unpad(b"unpad 524288 bits, all 1", &ones, 524288);
-    unpad(b"unpad 524289 bits", &ones, 524289);
-    unpad(b"unpad 524416 bits", &ones, 524416);
+fn largest_unpads() {
+    let zeros = [0u8; BYTES + 16];
+    let ones = [0xffu8; BYTES + 16];
+    unpad(b"unpad the largest text, all 0", &zeros, Session::MAX_BITS);
+    unpad(b"unpad the largest text, all 1", &ones, Session::MAX_BITS);
+    unpad(b"unpad a bit more", &ones, Session::MAX_BITS + 1);
+    unpad(b"unpad a block more", &ones, Session::MAX_BITS + 128);
 }
 
 pub fn run() {
     lengths();
     places();
     more_bits_than_input();
-    longest(b"pad 524287 bits", 524287, 4);
-    longest(b"pad 524287 bits, no room", 524287, 5);
-    longest(b"pad 524288 bits", 524288, 4);
-    longest(b"pad 524288 bits, no room", 524288, 5);
+    largest_pads();
     unpads();
     more_unpads();
-    longest_unpads();
+    largest_unpads();
 }

@@ -3,8 +3,8 @@ use mathlib.Core.Path.{_≡_, sym, ap, _∙_}
 use mathlib.Core.List.{List, [], _++_, append-nil}
 use Prim.Native.Nat.{ℕ, _+_, _*_, _/_, _≤_, _<_}
 use native.Mathlib.Omega.{arith}
-use borrow.Author.Tests.{eq-eqb}
-use lib.ListN.{length, take, length-append, drop-of-length-le}
+use borrow.Author.Tests.{eq-eqb, le-leb}
+use lib.ListN.{length, take, drop, length-append, drop-of-length-le}
 use lib.Seq.{take-at}
 use Rattle.bits.specs.Texts.{bytesFor, pack}
 use Rattle.bits.proofs.Texts.{length-pack, bytesFor-whole}
@@ -13,15 +13,17 @@ use Rattle.modes.specs.declared.session.Fed.{Fed}
 use Rattle.modes.specs.Sessions.{Arrays, FedBy, fedText, sessionText, feedNumber, written}
 use Rattle.modes.proofs.SessionLaws.{text-length}
 use Rattle.modes.proofs.FeedLaws.{accepted-ready, accepted-whole, accepted-count}
-use Rattle.grammar.specs.Texts.{hexBytes}
+use Rattle.grammar.specs.Texts.{hexBytes, decodedInto}
 use Rattle.grammar.proofs.DigitLaws.{length-hexBytes}
 use Rattle.lines.specs.Answer.{lineOf, fedLine}
 use Rattle.lines.proofs.WrittenLines.{refused-line}
-use Rattle.lines.proofs.NumberBounds.{feed-below}
+use Rattle.lines.proofs.NumberBounds.{feed-prints}
 
--- the bytes that were decoded to the front of an array
-pub decoded : (s rest : List ℕ) {l : List ℕ} → l ≡ hexBytes s ++ rest → take (length s / 2) l ≡ hexBytes s
-decoded s rest e = rw e (take-at (hexBytes s) rest (length s / 2) (length-hexBytes s))
+-- the bytes that were decoded to the front of an array that has room for them
+pub decoded : (s out : List ℕ) {l : List ℕ} → length s / 2 ≤ length out → l ≡ decodedInto s out → take (length s / 2) l ≡ hexBytes s
+unfolding decodedInto
+decoded s out room e =
+    rw (e, le-leb (length s / 2) (length out) room) (take-at (hexBytes s) (drop (length s / 2) out) (length s / 2) (length-hexBytes s))
 
 -- a front of n bytes is there, whatever comes behind it
 pub front-there : (l rest : List ℕ) {n : ℕ} → length l ≡ n → n ≤ length (l ++ rest)
@@ -29,7 +31,7 @@ front-there l rest e = simp length-append (omega arith)
 
 -- What is known of a feed of all the bits of a message of n bytes.
 pub record WholeFeed (s : Session) (message : List ℕ) (n : ℕ) (r : Fed) (after : List ℕ) : Type 0 where
-  pub small : r .number < 10
+  pub prints : r .number < 100
   pub refused : (r .number ≡ 0 → ⊥) → lineOf (r .number) [] ≡ fedLine s message
   pub size : r .number ≡ 0 → length after ≡ n
   pub accepted : r .number ≡ 0 → lineOf 0 after ≡ fedLine s message
@@ -67,7 +69,7 @@ module _ {s : Session} {message out after : List ℕ} {r : Fed} (arrays : Arrays
   known : WholeFeed s message (length message) r after
   known =
       record {
-        small = rw answer (feed-below s (length message) (length message * 8) (length message) 0);
+        prints = rw answer (feed-prints s (length message) (length message * 8) (length message) 0);
         refused = refused-feed;
         size = λ accepted. ap length (all-written accepted) ∙ text-bytes accepted;
         accepted = accepted-feed;

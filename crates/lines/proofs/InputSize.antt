@@ -1,122 +1,15 @@
--- A text of the form has at most 8,461 bytes: each piece that the grammar reads is bounded. So a reader may stop one byte
--- behind that. Assumes nothing.
-use mathlib.Core.Path.{_≡_, refl, sym, _∙_}
-use mathlib.Core.Bool.{Bool, true, false, _&&_}
-use mathlib.Core.List.{List}
-use mathlib.Core.Option.{Option, none, some}
-use Prim.Native.Nat.{ℕ, _+_, _%_, _≤_, _<_}
+-- How much of an input decides its answer: what was read when reading ended, or one byte more than the longest text of the
+-- form. Assumes nothing.
+use mathlib.Core.Path.{_≡_, refl}
+use mathlib.Core.Bool.{Bool, true, false}
 use native.Mathlib.Omega.{arith}
-use borrow.Author.Tests.{ltb-true, leb-true, leb-false, eqb-true, eqb-false}
-use lib.Dec.{leb, ltb, eqb}
-use lib.ListN.{length, take, drop, length-take, length-drop}
+use borrow.Author.Tests.{leb-true, leb-false}
+use lib.Dec.{leb}
+use lib.ListN.{length, take}
 use lib.Seq.{take-all, length-take-le}
-use Rattle.rules.specs.declared.Mode.{Mode}
-use Rattle.rules.specs.declared.Direction.{Direction}
-use Rattle.grammar.specs.Texts.{given, _>>=_, upTo, Cut, cut, all, isDecimal, isHex, countOn, hexBytes}
-use Rattle.grammar.specs.Grammar.{modeOf, lengthOf, directionOf, First, behindMode, firstOf, HexLine, hexLine, Request, behindFirst, request}
-use Rattle.grammar.proofs.WordLaws.{same-other}
-use Rattle.lines.specs.Answer.{answerBytes, FrontDecides}
-
--- ---- what an answer that is there tells of the steps to it
-
-never : {A : Type 0} {a : A} → none ≡ some a → ⊥
-never e = let z : _≡_ {A = ℕ} 0 1 = cc in omega arith
-
-given-true : {A : Type 0} (b : Bool) {a c : A} → given b a ≡ some c → (b ≡ true) × (a ≡ c)
-given-true true e = (refl, cc)
-given-true false e = absurd (never e)
-
-both-yes : (a b : Bool) → a && b ≡ true → (a ≡ true) × (b ≡ true)
-both-yes true b e = (refl, e)
-both-yes false b e = (e, cc)
-
-bound : {A B P : Type 0} {f : A → Option B} {b : B} (o : Option A) → (o >>= f) ≡ some b → ((a : A) → o ≡ some a → f a ≡ some b → P) → P
-bound none e next = absurd (never e)
-bound (some a) e next = next a refl e
-
--- ---- the words of the first line
-
-cut-size : (stop : ℕ) (s : List ℕ) {c : Cut} → cut stop s ≡ some c → length s ≡ length (c .before) + 1 + length (c .behind)
-unfolding cut
-cut-size stop s e =
-    let (inside, is) = given-true (ltb (upTo stop s) (length s)) {a = record { before = take (upTo stop s) s; behind = drop (upTo stop s + 1) s }} e in
-    rw (← is) (simp (length-take, length-drop) (omega (arith, ltb-true (upTo stop s) (length s) inside)))
-
--- a word that only one length has
-word-size : {A : Type 0} (w : List ℕ) (n : ℕ) {o : Option A} {a : A} → ((length w ≡ n → ⊥) → o ≡ none) → o ≡ some a → length w ≡ n
-word-size w n {o} {a} other e = by-test (eqb (length w) n) refl
-  where
-    by-test : (b : Bool) → eqb (length w) n ≡ b → length w ≡ n
-    by-test true t = eqb-true (length w) n t
-    by-test false t = absurd (never (sym (other (eqb-false (length w) n t)) ∙ e))
-
-mode-size : (w : List ℕ) {mode : Mode} → modeOf w ≡ some mode → length w ≡ 3
-unfolding modeOf
-mode-size w e = word-size w 3 (λ h. rw (same-other, same-other, same-other, same-other, same-other)) e
-
-direction-size : (w : List ℕ) {direction : Direction} → directionOf w ≡ some direction → length w ≡ 1
-unfolding directionOf
-direction-size w e = word-size w 1 (λ h. rw (same-other, same-other)) e
-
-length-size : (w : List ℕ) {n : ℕ} → lengthOf w ≡ some n → length w ≤ 3
-unfolding lengthOf
-length-size w e =
-    let asked = given-true (leb 1 (length w) && leb (length w) 3 && all isDecimal w) {a = countOn 0 w} e .0 in
-    leb-true _ _ (both-yes (leb 1 (length w)) (leb (length w) 3) (both-yes (leb 1 (length w) && leb (length w) 3) (all isDecimal w) asked .0) .1)
-
-behind-mode-size : (mode : Mode) (words : List ℕ) {first : First} → behindMode mode words ≡ some first → length words ≤ 5
-unfolding behindMode
-behind-mode-size mode words e =
-    bound (cut 32 words) e
-    (λ number found e. bound (lengthOf (number .before)) e
-    (λ n is e. bound (directionOf (number .behind)) e
-    (λ direction way e. omega (arith, cut-size 32 words found, length-size (number .before) is, direction-size (number .behind) way))))
-
-first-size : (line : List ℕ) {first : First} → firstOf line ≡ some first → length line ≤ 9
-unfolding firstOf
-first-size line e =
-    bound (cut 32 line) e
-    (λ name found e. bound (modeOf (name .before)) e
-    (λ mode is e. omega (arith, cut-size 32 line found, mode-size (name .before) is, behind-mode-size mode (name .behind) e)))
-
--- ---- the other lines
-
-hex-size : (limit : ℕ) (s : List ℕ) {h : HexLine} → hexLine limit s ≡ some h → length s ≤ limit + 1 + length (h .behind)
-unfolding hexLine
-hex-size limit s e =
-    bound (cut 10 s) e
-    (λ line found e.
-    let w = line .before in
-    let (asked, is) = given-true (leb (length w) limit && eqb (length w % 2) 0 && all isHex w) {a = record { bytes = hexBytes w; behind = line .behind }} e in
-    let short = both-yes (leb (length w) limit) (eqb (length w % 2) 0) (both-yes (leb (length w) limit && eqb (length w % 2) 0) (all isHex w) asked .0) .0 in
-    rw (← is) (omega (arith, cut-size 10 s found, leb-true (length w) limit short)))
-
-behind-first-size : (first : First) (s : List ℕ) {q : Request} → behindFirst first s ≡ some q → length s ≤ 129 + 129 + 8193
-unfolding behindFirst
-behind-first-size first s e =
-    bound (hexLine 128 s) e
-    (λ key k e. bound (hexLine 128 (key .behind)) e
-    (λ iv i e. bound (hexLine 8192 (iv .behind)) e
-    (λ message m e.
-    let q : Request = record { mode = first .mode; n = first .n; direction = first .direction; key = key .bytes; iv = iv .bytes; message = message .bytes } in
-    let end = given-true (eqb (length (message .behind)) 0) {a = q} e .0 in
-    omega (arith, hex-size 128 s k, hex-size 128 (key .behind) i, hex-size 8192 (iv .behind) m, eqb-true (length (message .behind)) 0 end))))
-
-request-size : (s : List ℕ) {q : Request} → request s ≡ some q → length s ≤ 8461
-unfolding request
-request-size s e =
-    bound (cut 10 s) e
-    (λ line found e. bound (firstOf (line .before)) e
-    (λ first is e. omega (arith, cut-size 10 s found, first-size (line .before) is, behind-first-size first (line .behind) e)))
-
--- ---- a longer text
-
-too-long : (s : List ℕ) → 8461 < length s → request s ≡ none
-too-long s long = by-request (request s) refl
-  where
-    by-request : (o : Option Request) → request s ≡ o → o ≡ none
-    by-request none e = refl
-    by-request (some q) e = absurd (omega (arith, request-size s e))
+use Rattle.grammar.proofs.SizeLaws.{too-long}
+use Rattle.grammar.proofs.EndedLaws.{ended-refuses}
+use Rattle.lines.specs.Answer.{answerTo, answerBytes, FrontDecides, EndDecides}
 
 pub front-decides : FrontDecides
 unfolding FrontDecides answerBytes
@@ -127,3 +20,7 @@ front-decides s = by-length (leb (length s) 8462) refl
     by-length false e =
         let long = leb-false (length s) 8462 e in
         rw (too-long s (omega arith), too-long (take 8462 s) (rw (length-take-le 8462 s (omega arith)) (omega arith)))
+
+pub end-decides : EndDecides
+unfolding EndDecides answerBytes answerTo
+end-decides front more e = rw (ended-refuses front more e)

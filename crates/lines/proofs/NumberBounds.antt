@@ -1,33 +1,39 @@
--- The numbers of open and feed have one digit, so that they can be printed. Assumes nothing.
-use mathlib.Core.Bool.{Bool, true, false, cond}
+-- The numbers of a call's questions are below 100, so that they can be printed: one computed test over each list. Assumes
+-- nothing.
+use mathlib.Core.Path.{_≡_, refl}
+use mathlib.Core.Bool.{Bool, true, false, cond, _&&_}
 use mathlib.Core.List.{List, [], _∷_}
 use Prim.Native.Nat.{ℕ, _<_}
 use native.Mathlib.Omega.{arith}
+use borrow.Author.Tests.{ltb-true}
+use lib.Dec.{ltb}
 use Rattle.rules.specs.declared.Mode.{Mode}
 use Rattle.modes.specs.declared.session.Session.{Session}
 use Rattle.modes.specs.Questions.{Question, ask, openQuestions, feedQuestions}
 use Rattle.modes.specs.Sessions.{openNumber, feedNumber}
+use Rattle.grammar.proofs.RangeLaws.{and-first, and-second}
 
--- Each question's number is below k.
-abbrev Below : ℕ → List Question → Type 0
-Below k [] = Unit
-Below k (q ∷ qs) = (q .number < k) × Below k qs
+-- Is each number of the list below 100?
+abbrev allPrint : List Question → Bool
+allPrint [] = true
+allPrint (q ∷ qs) = ltb (q .number) 100 && allPrint qs
 
-ask-below : (k : ℕ) (qs : List Question) → 0 < k → Below k qs → ask qs < k
+ask-prints : (qs : List Question) → allPrint qs ≡ true → ask qs < 100
 unfolding ask
-ask-below k [] h numbers = h
-ask-below k (q ∷ qs) h numbers = by-answer (q .yes) (ask-below k qs h (numbers .1))
+ask-prints [] test = omega arith
+ask-prints (q ∷ qs) test =
+    by-answer (q .yes) (ltb-true (q .number) 100 (and-first (ltb (q .number) 100) (allPrint qs) test))
+    (ask-prints qs (and-second (ltb (q .number) 100) (allPrint qs) test))
   where
-    by-answer : (b : Bool) → ask qs < k → cond b (ask qs) (q .number) < k
-    by-answer true rest = rest
-    by-answer false rest = numbers .0
+    by-answer : (b : Bool) → q .number < 100 → ask qs < 100 → cond b (ask qs) (q .number) < 100
+    by-answer true here rest = rest
+    by-answer false here rest = here
 
-pub open-below : (mode : Mode) (n : ℕ) (key iv : List ℕ) → openNumber mode n key iv < 10
+pub open-prints : (mode : Mode) (n : ℕ) (key iv : List ℕ) → openNumber mode n key iv < 100
 unfolding openNumber openQuestions
-open-below mode n key iv = ask-below 10 (openQuestions mode n key iv) (omega arith) (omega arith, (omega arith, (omega arith, tt)))
+open-prints mode n key iv = ask-prints (openQuestions mode n key iv) refl
 
-pub feed-below : (s : Session) (bytes count size place : ℕ) → feedNumber s bytes count size place < 10
+pub feed-prints : (s : Session) (bytes count size place : ℕ) → feedNumber s bytes count size place < 100
 unfolding feedNumber feedQuestions
-feed-below s bytes count size place =
-    ask-below 10 (feedQuestions (s .mode) (s .rounds) (s .n) (s .closed) (s .units) bytes count size place) (omega arith)
-    (omega arith, (omega arith, (omega arith, (omega arith, (omega arith, (omega arith, tt))))))
+feed-prints s bytes count size place =
+    ask-prints (feedQuestions (s .mode) (s .rounds) (s .n) (s .closed) (s .units) bytes count size place) refl

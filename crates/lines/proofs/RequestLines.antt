@@ -15,7 +15,7 @@ use Rattle.grammar.specs.Texts.{hexBytes}
 use Rattle.grammar.specs.Grammar.{request}
 use Rattle.grammar.specs.Answers.{Within, FormFits, FormRead, bytesAt}
 use Rattle.lines.specs.Answer.{lineOf, fedLine, requestLine, answerTo, answerBytes}
-use Rattle.lines.proofs.NumberBounds.{open-below}
+use Rattle.lines.proofs.NumberBounds.{open-prints}
 
 -- `len` bytes that are lent from a place on
 abbrev pub part : List ℕ → ℕ → ℕ → List ℕ
@@ -45,8 +45,8 @@ module _ {s : List ℕ} {r : Form} (read : FormRead s (request s) r) where
       opened : OpenedBy mode direction n (bytesAt s key key-len) (bytesAt s iv iv-len) o
       opened = rw (part-is s key key-len, part-is s iv iv-len) at lent
 
-      pub opening-small : o .number < 10
-      opening-small = rw (opened .answer) (open-below mode n (bytesAt s key key-len) (bytesAt s iv iv-len))
+      pub opening-prints : o .number < 100
+      opening-prints = rw (opened .answer) (open-prints mode n (bytesAt s key key-len) (bytesAt s iv iv-len))
 
       pub refused-opening : (o .number ≡ 0 → ⊥) → answerBytes s ≡ lineOf (o .number) []
       unfolding requestLine

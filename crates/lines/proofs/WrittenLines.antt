@@ -7,7 +7,7 @@ use native.Mathlib.Omega.{arith}
 use borrow.Author.Tests.{le-leb, lt-leb, ne-eqb}
 use lib.ListN.{length, take, drop, set, length-append, length-set}
 use lib.Seq.{paste, length-paste, take-paste, drop-paste, take-all, set-split, drop-drop, drop-set-lt}
-use Rattle.grammar.specs.Texts.{digit, decimalText, hexText}
+use Rattle.grammar.specs.Texts.{digit, decimalText, hexText, encodedInto}
 use Rattle.grammar.proofs.DigitLaws.{length-hexText}
 use Rattle.lines.specs.Answer.{lineOf, Wrote}
 
@@ -84,13 +84,15 @@ module _ (out t : List ℕ) (n : ℕ) (size : length t ≡ n) (room : n + 3 ≤ 
   line-size = simp length-append (omega arith)
 
 pub zero-number : (bytes out : List ℕ) {after : List ℕ} → length bytes * 2 + 3 ≤ length out
-    → after ≡ paste (set (set out 0 48) 1 32) 2 (hexText bytes) (length bytes * 2)
+    → after ≡ encodedInto bytes (set (set out 0 48) 1 32) 2
     → Wrote (lineOf 0 bytes) out (length bytes * 2 + 2 + 1) (set after (length bytes * 2 + 2) 10)
+unfolding encodedInto
 zero-number bytes out room e =
     let n = length bytes * 2 in
     let size = length-hexText bytes in
     let long = line-size out (hexText bytes) n size room in
-    rw (zero-line, e)
+    let fits = le-leb (2 + n) (length (set (set out 0 48) 1 32)) (simp length-set (omega arith)) in
+    rw (zero-line, e, fits)
     (record {
       count = omega (arith, long);
       bytes =

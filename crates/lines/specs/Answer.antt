@@ -2,7 +2,7 @@
 -- feeds all the data's bits at once, into as many bytes as the data has.
 use Prim.Native.Nat.{ℕ, _*_}
 use mathlib.Core.Path.{_≡_}
-use mathlib.Core.Bool.{cond}
+use mathlib.Core.Bool.{true, cond}
 use mathlib.Core.List.{List, [], _∷_, _++_}
 use mathlib.Core.Option.{Option, none, some}
 use lib.Dec.{eqb}
@@ -12,6 +12,7 @@ use Rattle.modes.specs.declared.session.Session.{Session}
 use Rattle.modes.specs.Sessions.{openNumber, openedSession, fedText, sessionText, feedNumber}
 use Rattle.grammar.specs.Texts.{hexText, decimalText}
 use Rattle.grammar.specs.Grammar.{Request, request}
+use Rattle.grammar.specs.Reading.{readingEnds}
 
 -- The number and, for 0 only, a space and the bytes in digits; then a line feed.
 unfoldable pub lineOf : ℕ → List ℕ → List ℕ
@@ -39,6 +40,10 @@ answerBytes input = answerTo (request input)
 -- A text of the form has at most 8,461 bytes, so the first 8,462 bytes of any input decide its answer.
 unfoldable pub FrontDecides : Type 0
 FrontDecides = (input : List ℕ) → answerBytes (take 8462 input) ≡ answerBytes input
+
+-- Where reading has ended, the answer is 12 whatever would come behind.
+unfoldable pub EndDecides : Type 0
+EndDecides = (front more : List ℕ) → readingEnds front ≡ true → answerBytes (front ++ more) ≡ lineOf 12 []
 
 -- A text written to the front of `out`: how long it is, and the bytes past it as they were.
 pub record Wrote (text out : List ℕ) (r : ℕ) (after : List ℕ) : Type 0 where

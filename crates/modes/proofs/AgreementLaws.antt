@@ -17,17 +17,17 @@ use Rattle.modes.proofs.MachineLaws.{sessionOf, session-after, cipherte
 -- ---- one feed
 
 -- The machine after a call.
-abbrev fedMachine : Machine → Call → Machine
+abbrev pub fedMachine : Machine → Call → Machine
 fedMachine m c = machineFeed m (c .input) (c .count) (length (c .out)) (c .place)
 
 -- What the call and the machine's feed have in common.
-record Agree (m : Machine) (c : Call) : Type 0 where
+pub record Agree (m : Machine) (c : Call) : Type 0 where
   pub session : c .result .session ≡ sessionOf (fedMachine m c)
   pub ciphertext : fedMachine m c .ciphertext ≡ m .ciphertext ++ fedBits c
   pub plaintext : fedMachine m c .plaintext ≡ m .plaintext ++ writtenBits c
 
 module _ (m : Machine) (c : Call) (f : FedBy (sessionOf m) (c .input) (c .count) (c .out) (c .place) (c .result) (c .after)) where
-  same-number : c .result .number ≡ machineNumber m (length (c .input)) (c .count) (length (c .out)) (c .place)
+  pub same-number : c .result .number ≡ machineNumber m (length (c .input)) (c .count) (length (c .out)) (c .place)
   unfolding sessionOf feedNumber machineNumber
   same-number = f .answer
 
@@ -56,22 +56,22 @@ module _ (m : Machine) (c : Call) (f : FedBy (sessionOf m) (c .input) (c .count)
         plaintext = rw (same, r .text) (plaintext-after m (fedBits c) (some-bits ready));
       }
 
-  agree : Ready (sessionOf m) → Step (sessionOf m) c → Agree m c
+  pub agree : Ready (sessionOf m) → Step (sessionOf m) c → Agree m c
   agree ready (refused e r) = refused-agree e r
   agree ready (taken e r) = accepted-agree ready e r
 
 -- ---- a list of feeds
 
-pub record Followed (m : Machine) (calls : List Call) (t : Session) : Type 0 where
+pub record Beside (m : Machine) (calls : List Call) (t : Session) : Type 0 where
   pub agrees : AgreesThroughout m (m .plaintext) calls
   pub ciphertext : machineAfter m calls .ciphertext ≡ m .ciphertext ++ allFed calls
   pub plaintext : machineAfter m calls .plaintext ≡ m .plaintext ++ allWritten calls
   pub session : t ≡ sessionOf (machineAfter m calls)
 
-followed-step : (m : Machine) (c : Call) {cs : List Call} {t : Session} → c .result .number ≡ machineNumber m (length (c .input)) (c .count) (length (c .out)) (c .place)
-    → Agree m c → Followed (fedMachine m c) cs t → Followed m (c ∷ cs) t
+beside-step : (m : Machine) (c : Call) {cs : List Call} {t : Session} → c .result .number ≡ machineNumber m (length (c .input)) (c .count) (length (c .out)) (c .place)
+    → Agree m c → Beside (fedMachine m c) cs t → Beside m (c ∷ cs) t
 unfolding AgreesThroughout allFed allWritten machineAfter sessionOf
-followed-step m c {cs} number a q =
+beside-step m c {cs} number a q =
     record {
       agrees = record {
         number = number;
@@ -88,11 +88,11 @@ followed-step m c {cs} number a q =
       session = q .session;
     }
 
-pub followed : {s t : Session} {calls : List Call} → Run s calls t → (m : Machine) → s ≡ sessionOf m → Ready s → Followed m calls t
+pub beside : {s t : Session} {calls : List Call} → Run s calls t → (m : Machine) → s ≡ sessionOf m → Ready s → Beside m calls t
 unfolding AgreesThroughout allFed allWritten machineAfter
-followed done m same ready = record { agrees = tt; ciphertext = sym (append-nil (m .ciphertext)); plaintext = sym (append-nil (m .plaintext)); session = same }
-followed (fed {c = c} f run) m same ready =
+beside done m same ready = record { agrees = tt; ciphertext = sym (append-nil (m .ciphertext)); plaintext = sym (append-nil (m .plaintext)); session = same }
+beside (fed {c = c} f run) m same ready =
     let g = rw same at f in
     let here = rw same at ready in
     let a = agree m c g here (step here g) in
-    followed-step m c (same-number m c g) a (followed run (fedMachine m c) (a .session) (step-ready ready (step ready f)))
+    beside-step m c (same-number m c g) a (beside run (fedMachine m c) (a .session) (step-ready ready (step ready f)))

@@ -1,70 +1,86 @@
 -- Demand 3 for two lists of decrypting feeds: `DemandThree`. Assumes nothing.
-use Prim.Native.Nat.{_+_}
-use mathlib.Core.Path.{_≡_, sym, ap, _∙_}
+use Prim.Native.Nat.{ℕ, zero, suc, _+_, _*_, _≤_, _<_}
+use mathlib.Core.Path.{_≡_, refl, sym, ap, _∙_}
 use mathlib.Core.Bool.{true}
 use mathlib.Core.List.{List, []}
-use lib.ListN.{length}
+use native.Mathlib.Nat.{le-trans, le-of-mul-le-mul-right}
+use native.Mathlib.Omega.{arith}
+use lib.ListN.{length, getD}
 use Rattle.bits.specs.Blocks.{Bytes}
+use Rattle.aes.specs.Calls.{encrypted, decrypted}
 use Rattle.rules.specs.declared.Direction.the-variants.{Decrypt}
-use Rattle.rules.specs.Lengths.{wholeUnits}
-use Rattle.rules.specs.Rules.{start, worked}
+use Rattle.rules.specs.Rules.{start, unitsIn, registerAt}
 use Rattle.rules.specs.Promises.{RecoveryHolds}
+use Rattle.rules.proofs.Counts.{units-cover}
+use Rattle.rules.proofs.Taken.{unit-bounds}
 use Rattle.rules.proofs.Recovering.{recovery-holds}
 use Rattle.modes.specs.declared.session.Session.{Session}
 use Rattle.modes.specs.declared.session.Opened.{Opened}
-use Rattle.modes.specs.Sessions.{OpenedBy, openedSession}
-use Rattle.modes.specs.Machine.{Opening, Machine, encOf, decOf, machineStart, machineRegister}
-use Rattle.modes.specs.Lists.{Call, Run, machineAfter}
-use Rattle.modes.specs.Promises.{AgreesThroughout, DemandThree}
+use Rattle.modes.specs.Sessions.{OpenedBy, openedSession, sessionRegister}
+use Rattle.modes.specs.Machine.{Opening, machineStart}
+use Rattle.modes.specs.Lists.{Call, Run, allFed, registersAfter, registers}
+use Rattle.modes.specs.Promises.{Followed, DemandThree}
 use Rattle.modes.proofs.OpeningLaws.{opened-session, opened-ready}
-use Rattle.modes.proofs.OpenedRuns.{opened-run}
-use Rattle.modes.proofs.MachineLaws.{sessionOf, register-of}
-use Rattle.modes.proofs.AgreementLaws.{followed}
+use Rattle.modes.proofs.OpenedRuns.{OpenedRun, opened-run}
+use Rattle.modes.proofs.SessionLaws.{Ready}
+use Rattle.modes.proofs.MachineLaws.{sessionOf}
+use Rattle.modes.proofs.AgreementLaws.{beside}
+use Rattle.modes.proofs.RegisterLaws.{along-length, along-at, sessionRegisters, list-registers}
 
--- One list, and the machine m that it ends in: it agrees with the list, makes of the ciphertext that it took what the unit rules
--- do, and its R is the last of the registers.
-pub record MachineRun (o : Opening) (calls : List Call) (m : Machine) : Type 0 where
-  pub agrees : AgreesThroughout (machineStart o) [] calls
-  pub whole : wholeUnits (o .mode) (o .n) (length (m .ciphertext)) ≡ true
-  pub plaintext : m .plaintext ≡ worked (encOf o) (decOf o) (o .mode) Decrypt (o .n) (start (o .mode) (o .iv)) (m .ciphertext)
-  pub register : m .register ≡ machineRegister o (m .ciphertext) (m .units)
+-- One list: its machine, and the registers by the unit rules.
+record ListRun (o : Opening) (calls : List Call) : Type 0 where
+  pub followed : Followed o calls
+  pub register : (t : ℕ) → t ≤ unitsIn (o .n) (length (allFed calls))
+      → getD (registers o calls) t [] ≡ registerAt (encrypted (o .key)) (decrypted (o .key)) (o .mode) Decrypt (o .n) (start (o .mode) (o .iv)) (allFed calls) t
 
-pub machine-run : (o : Opening) {r : Opened} {calls : List Call} {t : Session} → Bytes (o .key) → Bytes (o .iv)
-    → OpenedBy (o .mode) Decrypt (o .n) (o .key) (o .iv) r → r .number ≡ 0 → Run (r .session) calls t
-    → MachineRun o calls (machineAfter (machineStart o) calls)
-unfolding machineStart sessionOf openedSession
-machine-run o {r} {calls} {t} key-bytes iv-bytes opening accepted run =
+list-run : (o : Opening) {r : Opened} {calls : List Call} {t : Session} → Bytes (o .key) → Bytes (o .iv)
+    → OpenedBy (o .mode) Decrypt (o .n) (o .key) (o .iv) r → r .number ≡ 0 → Run (r .session) calls t → ListRun o calls
+unfolding machineStart sessionOf openedSession registers sessionRegisters sessionRegister registerAt encrypted decrypted
+list-run o {r} {calls} {t} key-bytes iv-bytes opening accepted run =
     let same = opened-session opening accepted in
-    let q = opened-run o Decrypt key-bytes iv-bytes opening accepted run in
-    let m = followed run (machineStart o) same (rw same (opened-ready opening accepted key-bytes iv-bytes)) in
-    let units = sym (ap (λ (s : Session). s .units) (m .session)) ∙ q .units in
+    let ready : Ready (r .session) = rw same (opened-ready opening accepted key-bytes iv-bytes) in
+    let m = beside run (machineStart o) same ready in
+    let regs = list-registers run (machineStart o) same ready ∙ ap (λ s. sessionRegisters s (allFed calls)) same in
+    let units = opened-run o Decrypt key-bytes iv-bytes opening accepted run .units in
     record {
-      agrees = m .agrees;
-      whole = rw (m .ciphertext) (q .whole);
-      plaintext = m .plaintext ∙ rw (m .ciphertext) (q .text);
-      register = sym (ap (λ (s : Session). s .register) (m .session)) ∙ q .register ∙ rw (register-of, m .ciphertext, units);
+      followed = record {
+        agrees = m .agrees;
+        ciphertext = m .ciphertext;
+        plaintext = m .plaintext;
+        counted = ap suc (ap length regs ∙ along-length _ _ ∙ sym units ∙ ap (λ (s : Session). s .units) (m .session));
+      };
+      register = by-place regs;
     }
+  where
+    by-place : registersAfter (machineStart o) calls ≡ sessionRegisters (openedSession (o .mode) Decrypt (o .n) (o .key) (o .iv)) (allFed calls) → (t : ℕ) → t ≤ unitsIn (o .n) (length (allFed calls))
+        → getD (registers o calls) t [] ≡ registerAt (encrypted (o .key)) (decrypted (o .key)) (o .mode) Decrypt (o .n) (start (o .mode) (o .iv)) (allFed calls) t
+    by-place regs zero h = refl
+    by-place regs (suc t) h = ap (λ l. getD l t []) regs ∙ along-at (unitsIn (o .n) (length (allFed calls))) _ [] t (omega arith)
+
+-- A run's registers are among them.
+within : {n : ℕ} (i k s bits : ℕ) → 0 < n → (i + k) * n ≤ bits → s ≤ k → i + s ≤ unitsIn n bits
+within i k s bits some inside to = let cover = le-of-mul-le-mul-right (le-trans inside (units-cover bits some)) some in omega arith
 
 pub demand-three : DemandThree
-unfolding DemandThree RecoveryHolds encOf decOf
+unfolding DemandThree RecoveryHolds
 demand-three mode n key v w r r′ calls others t u key-bytes v-bytes w-bytes opening accepted opening′ accepted′ run run′ =
     let o : Opening = record { mode = mode; n = n; key = key; iv = v } in
     let o′ : Opening = record { mode = mode; n = n; key = key; iv = w } in
-    let x = machineAfter (machineStart o) calls .ciphertext in
-    let y = machineAfter (machineStart o′) others .ciphertext in
     let q = opened-run o Decrypt key-bytes v-bytes opening accepted run in
     let q′ = opened-run o′ Decrypt key-bytes w-bytes opening′ accepted′ run′ in
-    let m = machine-run o key-bytes v-bytes opening accepted run in
-    let m′ = machine-run o′ key-bytes w-bytes opening′ accepted′ run′ in
-    let recovery = recovery-holds (encOf o) (decOf o) mode n v w x y (q .block-ciphers) (q .unit) (m .whole) (m′ .whole) (q .block) (q′ .block) in
+    let l = list-run o key-bytes v-bytes opening accepted run in
+    let l′ = list-run o′ key-bytes w-bytes opening′ accepted′ run′ in
+    let some = unit-bounds mode n (q .unit) .0 in
+    let recovery = recovery-holds (encrypted key) (decrypted key) mode n v w (allFed calls) (allFed others) (q .block-ciphers) (q .unit) (q .whole) (q′ .whole) (q .block) (q′ .block) in
     record {
-      machine = m .agrees;
-      other-machine = m′ .agrees;
-      registers = m .register;
-      other-registers = m′ .register;
-      run-plain = λ right i j k common s from to. rw (m .plaintext, m′ .plaintext) (recovery .run-plain right i j k common s from to);
+      machine = l .followed;
+      other-machine = l′ .followed;
+      run-plain = λ right i j k common s from to. rw (q .text, q′ .text) (recovery .run-plain right i j k common s from to);
       run-registers = λ right i j k common s from to.
-          register-of o x (i + s) ∙ recovery .run-registers right i j k common s from to ∙ sym (register-of o′ y (j + s));
-      one-block = λ cbc same j change. rw (m .plaintext, m′ .plaintext) (recovery .one-block cbc same j change);
-      same-bits = λ free same long b. rw (m .plaintext, m′ .plaintext) (recovery .same-bits free same long b);
+          l .register (i + s) (within i k s _ some (common .inside-x) to) ∙ recovery .run-registers right i j k common s from to
+          ∙ sym (l′ .register (j + s) (within j k s _ some (common .inside-y) to));
+      one-block-ecb = λ ecb j change. rw (q .text, q′ .text) (recovery .one-block-ecb ecb j change);
+      one-block = λ cbc same j change. rw (q .text, q′ .text) (recovery .one-block cbc same j change);
+      one-segment = λ cfb same j change. rw (q .text, q′ .text) (recovery .one-segment cfb same j change);
+      same-bits = λ free same long b. rw (q .text, q′ .text) (recovery .same-bits free same long b);
     }

@@ -1,20 +1,21 @@
 -- Demand 2 for lists of feeds: `DemandTwo` and `UndoneByTheOther`. Assumes nothing.
 use mathlib.Core.Path.{_∙_}
 use mathlib.Core.List.{List}
+use Rattle.aes.specs.Calls.{encrypted, decrypted}
 use Rattle.rules.specs.declared.Direction.{Direction}
 use Rattle.rules.specs.Promises.{other, Texts, TextsHold}
 use Rattle.rules.proofs.Texts.{texts-hold}
 use Rattle.modes.specs.declared.session.Session.{Session}
-use Rattle.modes.specs.Machine.{Opening, encOf, decOf}
+use Rattle.modes.specs.Machine.{Opening}
 use Rattle.modes.specs.Lists.{Call, allFed}
 use Rattle.modes.specs.Promises.{DemandTwo, UndoneByTheOther}
 use Rattle.modes.proofs.OpenedRuns.{OpenedRun, opened-run}
 
 texts : {o : Opening} {dir : Direction} {calls : List Call} {t : Session} → OpenedRun o dir calls t
-    → Texts (encOf o) (decOf o) (o .mode) dir (o .n) (o .iv) (allFed calls)
+    → Texts (encrypted (o .key)) (decrypted (o .key)) (o .mode) dir (o .n) (o .iv) (allFed calls)
 unfolding TextsHold
 texts {o} {dir} {calls} q =
-    texts-hold (encOf o) (decOf o) (o .mode) dir (o .n) (o .iv) (allFed calls) (q .block-ciphers) (q .unit) (q .whole) (q .block)
+    texts-hold (encrypted (o .key)) (decrypted (o .key)) (o .mode) dir (o .n) (o .iv) (allFed calls) (q .block-ciphers) (q .unit) (q .whole) (q .block)
 
 pub demand-two : DemandTwo
 unfolding DemandTwo

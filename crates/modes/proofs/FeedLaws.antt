@@ -1,21 +1,24 @@
 -- Demand 1 for one feed: a refused one changes nothing, an accepted one exactly the named bytes. Assumes nothing.
-use Prim.Native.Nat.{ℕ}
-use mathlib.Core.Path.{_≡_, sym, _∙_}
-use mathlib.Core.Bool.{true, false}
-use mathlib.Core.List.{List}
+use Prim.Native.Nat.{ℕ, _%_}
+use mathlib.Core.Path.{_≡_, refl, sym, ap, _∙_}
+use mathlib.Core.Bool.{Bool, true, false, not}
+use mathlib.Core.List.{List, [], append-nil}
 use native.Mathlib.Omega.{arith}
 use lib.Dec.{eqb}
-use lib.ListN.{length, length-take}
-use borrow.Author.Tests.{eq-eqb, ne-eqb}
+use native.Mathlib.Nat.{add-zero}
+use lib.ListN.{length, length-take, take-append-drop}
+use borrow.Author.Tests.{eq-eqb, ne-eqb, eqb-true, eqb-false, not-true}
+use Rattle.bits.specs.Texts.{pack, packTo, bytesFor}
 use Rattle.bits.proofs.Texts.{length-bits}
 use Rattle.rules.specs.Lengths.{wholeUnits}
+use Rattle.rules.proofs.Taken.{unit-bounds}
 use Rattle.modes.specs.declared.session.Session.{Session}
 use Rattle.modes.specs.declared.session.Fed.{Fed}
 use Rattle.modes.specs.Sessions.{Arrays, FedBy, fedText, fedSession, sessionText, feedNumber, written}
-use Rattle.modes.specs.Promises.{RefusedUnchanged, ExactlyTheNamed, AcceptedExact}
+use Rattle.modes.specs.Promises.{RefusedUnchanged, ExactlyTheNamed, AcceptedExact, NothingFed, ClosesAfterShort}
 use Rattle.modes.proofs.QuestionLaws.{FeedTaken, feed-taken}
 use Rattle.modes.proofs.WrittenLaws.{written-before, written-behind, written-text, written-spare, written-size}
-use Rattle.modes.proofs.SessionLaws.{Ready, text-length}
+use Rattle.modes.proofs.SessionLaws.{Ready, text-length, text-none, fed-none}
 
 pub refused-unchanged : RefusedUnchanged
 unfolding RefusedUnchanged
@@ -67,3 +70,28 @@ module _ {s : Session} {input : List ℕ} {count : ℕ} {out : List ℕ} {place 
 pub accepted-exact : AcceptedExact
 unfolding AcceptedExact
 accepted-exact s input count out place r after arrays fed accepted = accepted-named fed accepted arrays
+
+-- ---- a feed of 0 bits, and closing
+
+written-none : (out : List ℕ) (place : ℕ) → written out place [] ≡ out
+unfolding written pack packTo bytesFor
+written-none out place = rw (add-zero, append-nil) (take-append-drop place out)
+
+pub nothing-fed : NothingFed
+unfolding NothingFed RefusedUnchanged fedText
+nothing-fed s input out place r after fed = by-number (eqb (r .number) 0) refl
+  where
+    by-number : (b : Bool) → eqb (r .number) 0 ≡ b → (r .session ≡ s) × (after ≡ out)
+    by-number false e = refused-unchanged s input 0 out place r after fed (eqb-false (r .number) 0 e)
+    by-number true e =
+        let number = eqb-true (r .number) 0 e in
+        let some = unit-bounds (s .mode) (s .n) (asked fed number .unit) .0 in (
+          accepted-session fed number ∙ fed-none s some (asked fed number .not-closed),
+          accepted-output fed number ∙ ap (written out place) (text-none s some) ∙ written-none out place,
+        )
+
+pub closes-after-short : ClosesAfterShort
+unfolding ClosesAfterShort fedSession
+closes-after-short s input count out place r after fed accepted =
+    let closed : r .session .closed ≡ not (eqb (count % s .n) 0) = ap (λ (t : Session). t .closed) (accepted-session fed accepted) ∙ rw (accepted-count fed accepted) in
+    (λ yes. eqb-false (count % s .n) 0 (not-true _ (sym closed ∙ yes)), λ short. closed ∙ rw (ne-eqb (count % s .n) 0 short))

@@ -13,4 +13,5 @@ pub mod OpenedRuns
 pub mod DemandTwo
 pub mod MachineLaws
 pub mod AgreementLaws
+pub mod RegisterLaws
 pub mod DemandThree

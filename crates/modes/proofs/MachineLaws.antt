@@ -12,15 +12,15 @@ use lib.Dec.{eqb}
 use lib.ListN.{length, take, drop}
 use lib.Seq.{take-all}
 use borrow.Author.Tests.{lt-ltb, le-ltb, eqb-false}
-use Rattle.aes.specs.Calls.{keyRounds, keyBytes}
+use Rattle.aes.specs.Calls.{keyRounds, keyBytes, encrypted, decrypted}
 use Rattle.rules.specs.declared.Direction.the-variants.{Decrypt}
-use Rattle.rules.specs.Rules.{outOf, nextOf, unitAt, unitsIn, joined, registerAt, outAt, start, worked}
+use Rattle.rules.specs.Rules.{outOf, nextOf, unitAt, unitsIn, joined, registerAt, outAt, worked}
 use Rattle.rules.proofs.Counts.{units-cover}
 use Rattle.rules.proofs.Joined.{unit-from, unit-length, joined-units}
 use Rattle.rules.proofs.Taken.{whole-unit}
 use Rattle.modes.specs.declared.session.Session.{Session}
 use Rattle.modes.specs.Sessions.{sessionText, sessionRegister, fedSession}
-use Rattle.modes.specs.Machine.{Opening, Machine, encOf, decOf, machineUnit, machineUnits, machineStart, machineRegister}
+use Rattle.modes.specs.Machine.{Machine, machineUnit, machineUnits}
 
 -- ---- the first unit of a text
 
@@ -59,8 +59,8 @@ module _ (m : Machine) (x : List Bool) where
   units-done zero = sym (add-zero (m .units))
   units-done (suc k) = rw unit-more (omega (arith, units-done k))
 
-  units-register : (k : ℕ)
-      → machineUnits k m x .register ≡ registerAt (encOf (m .opening)) (decOf (m .opening)) (m .opening .mode) Decrypt (m .opening .n) (m .register) x k
+  pub units-register : (k : ℕ)
+      → machineUnits k m x .register ≡ registerAt (encrypted (m .opening .key)) (decrypted (m .opening .key)) (m .opening .mode) Decrypt (m .opening .n) (m .register) x k
   unfolding machineUnits machineUnit registerAt nextOf
   units-register zero = refl
   units-register (suc k) = rw (unit-more, units-opening k, units-register k)
@@ -71,7 +71,7 @@ module _ (m : Machine) (x : List Bool) where
   units-ciphertext (suc k) = rw (unit-more, units-ciphertext k, append-assoc)
 
   units-plaintext : (k : ℕ)
-      → machineUnits k m x .plaintext ≡ m .plaintext ++ joined k (outAt (encOf (m .opening)) (decOf (m .opening)) (m .opening .mode) Decrypt (m .opening .n) (m .register) x)
+      → machineUnits k m x .plaintext ≡ m .plaintext ++ joined k (outAt (encrypted (m .opening .key)) (decrypted (m .opening .key)) (m .opening .mode) Decrypt (m .opening .n) (m .register) x)
   unfolding machineUnits machineUnit joined outAt outOf
   units-plaintext zero = sym (append-nil (m .plaintext))
   units-plaintext (suc k) = rw (unit-more, units-opening k, units-register k, units-plaintext k, append-assoc)
@@ -99,12 +99,6 @@ module _ (m : Machine) (x : List Bool) where
       by-rest true e = units-kept (unitsIn (m .opening .n) (length x)) (whole-unit (m .opening .n) x some e) ∙ free
       by-rest false e = by-count (eqb-false (length x % m .opening .n) 0 e) (unitsIn (m .opening .n) (length x)) refl
 
--- The registers of demand 3 are those of the unit rules.
-pub register-of : (o : Opening) (x : List Bool) (t : ℕ)
-    → machineRegister o x t ≡ registerAt (encOf o) (decOf o) (o .mode) Decrypt (o .n) (start (o .mode) (o .iv)) x t
-unfolding machineRegister machineStart
-register-of o x t = units-register (machineStart o) x t
-
 -- ---- the machine and a session
 
 -- The decrypting session that holds what the machine holds.
@@ -124,7 +118,7 @@ sessionOf m =
 -- The machine after all units of a text, where it is not closed.
 module _ (m : Machine) (x : List Bool) (some : 0 < m .opening .n) where
   pub session-after : m .closed ≡ false → sessionOf (machineUnits (unitsIn (m .opening .n) (length x)) m x) ≡ fedSession (sessionOf m) x
-  unfolding sessionOf fedSession sessionRegister encOf decOf
+  unfolding sessionOf fedSession sessionRegister encrypted decrypted
   session-after free =
       let k = unitsIn (m .opening .n) (length x) in
       rw (units-opening m x k, units-register m x k, units-done m x k, units-closed m x some free)
@@ -135,5 +129,5 @@ module _ (m : Machine) (x : List Bool) (some : 0 < m .opening .n) where
       ∙ rw (joined-units, take-all (unitsIn (m .opening .n) (length x) * m .opening .n) x (units-cover (length x) some))
 
   pub plaintext-after : machineUnits (unitsIn (m .opening .n) (length x)) m x .plaintext ≡ m .plaintext ++ sessionText (sessionOf m) x
-  unfolding sessionOf sessionText worked encOf decOf
+  unfolding sessionOf sessionText worked encrypted decrypted
   plaintext-after = units-plaintext m x (unitsIn (m .opening .n) (length x))

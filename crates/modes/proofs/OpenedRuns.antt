@@ -6,30 +6,31 @@ use mathlib.Core.List.{List}
 use native.Mathlib.Nat.{zero-add}
 use lib.ListN.{length}
 use Rattle.bits.specs.Blocks.{Bytes, Block, BlockCipher}
+use Rattle.aes.specs.Calls.{encrypted, decrypted}
 use Rattle.rules.specs.declared.Direction.{Direction}
 use Rattle.rules.specs.Lengths.{unitLengthOk, wholeUnits}
 use Rattle.rules.specs.Rules.{start, unitsIn, registerAt, worked}
 use Rattle.modes.specs.declared.session.Session.{Session}
 use Rattle.modes.specs.declared.session.Opened.{Opened}
 use Rattle.modes.specs.Sessions.{OpenedBy, openedSession, sessionText, sessionRegister, fedSession}
-use Rattle.modes.specs.Machine.{Opening, encOf, decOf}
+use Rattle.modes.specs.Machine.{Opening}
 use Rattle.modes.specs.Lists.{Call, Run, allFed, allWritten}
 use Rattle.modes.proofs.SessionLaws.{ciphers}
 use Rattle.modes.proofs.RunLaws.{ended}
 use Rattle.modes.proofs.OpeningLaws.{opened-session, opened-ready}
 
 pub record OpenedRun (o : Opening) (dir : Direction) (calls : List Call) (t : Session) : Type 0 where
-  pub block-ciphers : BlockCipher (encOf o) (decOf o)
+  pub block-ciphers : BlockCipher (encrypted (o .key)) (decrypted (o .key))
   pub unit : unitLengthOk (o .mode) (o .n) ≡ true
   pub block : Block (start (o .mode) (o .iv))
   pub whole : wholeUnits (o .mode) (o .n) (length (allFed calls)) ≡ true
-  pub text : allWritten calls ≡ worked (encOf o) (decOf o) (o .mode) dir (o .n) (start (o .mode) (o .iv)) (allFed calls)
-  pub register : t .register ≡ registerAt (encOf o) (decOf o) (o .mode) dir (o .n) (start (o .mode) (o .iv)) (allFed calls) (unitsIn (o .n) (length (allFed calls)))
+  pub text : allWritten calls ≡ worked (encrypted (o .key)) (decrypted (o .key)) (o .mode) dir (o .n) (start (o .mode) (o .iv)) (allFed calls)
+  pub register : t .register ≡ registerAt (encrypted (o .key)) (decrypted (o .key)) (o .mode) dir (o .n) (start (o .mode) (o .iv)) (allFed calls) (unitsIn (o .n) (length (allFed calls)))
   pub units : t .units ≡ unitsIn (o .n) (length (allFed calls))
 
 pub opened-run : (o : Opening) (dir : Direction) {r : Opened} {calls : List Call} {t : Session} → Bytes (o .key) → Bytes (o .iv)
     → OpenedBy (o .mode) dir (o .n) (o .key) (o .iv) r → r .number ≡ 0 → Run (r .session) calls t → OpenedRun o dir calls t
-unfolding openedSession sessionText sessionRegister fedSession encOf decOf
+unfolding openedSession sessionText sessionRegister fedSession encrypted decrypted
 opened-run o dir {r} {calls} {t} key-bytes iv-bytes opening accepted run =
     let ready = opened-ready opening accepted key-bytes iv-bytes in
     let one = ended (rw (opened-session opening accepted) at run) ready .as-one refl in

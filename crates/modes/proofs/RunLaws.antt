@@ -12,7 +12,7 @@ use Rattle.modes.specs.declared.session.Session.{Session}
 use Rattle.modes.specs.Sessions.{FedBy, fedText, fedSession, sessionText}
 use Rattle.modes.specs.Lists.{Call, Run, done, fed, accepted, fedBits, writtenBits, allFed, allWritten}
 use Rattle.modes.specs.Promises.{RefusedUnchanged}
-use Rattle.modes.proofs.SessionLaws.{Ready, fed-ready, text-none, fed-none, whole-none, whole-fed, text-append, fed-append, whole-units-append}
+use Rattle.modes.proofs.SessionLaws.{Ready, some-bits, fed-ready, text-none, fed-none, whole-none, whole-fed, text-append, fed-append, whole-units-append}
 use Rattle.modes.proofs.FeedLaws.{refused-unchanged, accepted-not-closed, accepted-count, accepted-whole, accepted-session, accepted-named}
 
 -- ---- one call
@@ -134,6 +134,6 @@ unfolding allFed allWritten
 ended {s} done ready =
     record {
       shut = λ closed. record { none-fed = refl; none-written = refl; session = refl };
-      as-one = λ free. record { whole = whole-none (s .mode) (s .n); text = sym (text-none ready); session = sym (fed-none ready free) };
+      as-one = λ free. record { whole = whole-none (s .mode) (s .n); text = sym (text-none s (some-bits ready)); session = sym (fed-none s (some-bits ready) free) };
     }
 ended (fed f run) ready = ended-step ready (step ready f) (ended run)

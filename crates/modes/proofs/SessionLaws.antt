@@ -44,10 +44,10 @@ whole-none Ofb n = refl
 whole-none Ctr n = refl
 
 -- The block functions of a session.
-abbrev encBy : Session → List ℕ → List ℕ
+abbrev pub encBy : Session → List ℕ → List ℕ
 encBy s = Enc (s .rounds) (s .keys)
 
-abbrev decBy : Session → List ℕ → List ℕ
+abbrev pub decBy : Session → List ℕ → List ℕ
 decBy s = Dec (s .rounds) (s .keys)
 
 module _ {s : Session} (ready : Ready s) where
@@ -60,7 +60,7 @@ module _ {s : Session} (ready : Ready s) where
 
   -- whole units, then the rest
   module _ (x y : List Bool) (units : length x % s .n ≡ 0) where
-    bits-of-units : length x ≡ unitsIn (s .n) (length x) * s .n
+    pub bits-of-units : length x ≡ unitsIn (s .n) (length x) * s .n
     bits-of-units = whole-units (length x) some-bits units
 
     rest-of-bits : length (x ++ y) % s .n ≡ length y % s .n
@@ -99,16 +99,18 @@ module _ {s : Session} (ready : Ready s) where
           arrays = record {
             register = registers-block ciphers (s .direction) (ready .arrays .register) text (unitsIn (s .n) (length x)) (le-refl (unitsIn (s .n) (length x)));
             keys = ready .arrays .keys;
+            keys-size = ready .arrays .keys-size;
           };
           rounds-good = ready .rounds-good;
           unit = ready .unit;
         }
 
-  -- no text
+-- No text.
+module _ (s : Session) (some : 0 < s .n) where
   pub text-none : sessionText s [] ≡ []
   unfolding sessionText worked joined
-  text-none = rw (units-none some-bits)
+  text-none = rw (units-none some)
 
   pub fed-none : s .closed ≡ false → fedSession s [] ≡ s
   unfolding fedSession sessionRegister registerAt
-  fed-none free = rw (units-none some-bits, zero-mod, add-zero, ← free)
+  fed-none free = rw (units-none some, zero-mod, add-zero, ← free)

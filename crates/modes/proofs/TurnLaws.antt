@@ -13,14 +13,18 @@ use Rattle.bits.specs.Xor.{xorBytes}
 use Rattle.bits.specs.Texts.{bits, pack, packTo, bytesFor, xorBits, shiftIn}
 use Rattle.bits.specs.Blocks.{Block}
 use Rattle.bits.specs.Counter.{increment}
-use Rattle.bits.proofs.Texts.{bits-block, block-pack-bits}
-use Rattle.bits.proofs.Xors.{bits-xorBytes, take-xorBits}
+use Rattle.bits.proofs.Texts.{bits-block, block-pack-bits, pack-block}
+use Rattle.bits.proofs.Xors.{bits-xorBytes, take-xorBits, xorBytes-block}
+use Rattle.aes.specs.Cipher.{Enc, Dec}
+use Rattle.prepared.specs.Rounds.{blockBy}
+use Rattle.prepared.specs.Prepared.{PreparedFor}
 use Rattle.rules.specs.declared.Mode.{Mode}
 use Rattle.rules.specs.declared.Mode.the-variants.{Ecb, Cbc, Cfb, Ofb, Ctr}
 use Rattle.rules.specs.declared.Direction.the-variants.{Encrypt, Decrypt}
 use Rattle.rules.specs.declared.Direction.{Direction}
 use Rattle.rules.specs.Rules.{msb, mask, next, cipher, plain, outOf, nextOf}
-use Rattle.modes.specs.Turns.{Turned, unitSizeOk}
+use Rattle.rules.proofs.Units.{UnitLength}
+use Rattle.modes.specs.Turns.{decrypting, runsDec, Runs, Turned, unitSizeOk}
 
 -- ---- a whole block
 
@@ -52,48 +56,45 @@ shifted {register} {segment} size hr hs le =
 
 -- ---- the modes
 
-module _ (enc dec : List ℕ → List ℕ) {register unit : List ℕ} (hr : Block register) (hu : Block unit) where
-  pub ecb-encrypted : {out : List ℕ} → Block out → out ≡ enc unit → Turned enc dec Ecb Encrypt register unit 128 out register
-  unfolding outOf nextOf cipher next
-  ecb-encrypted ho e = record { out-bits = whole ho ∙ ap bits (e ∙ ap enc (sym (packed hu))); register-after = refl }
+module _ (f : List ℕ → List ℕ) {register unit : List ℕ} (hr : Block register) (hu : Block unit) where
+  pub ecb-turned : (dir : Direction) {out : List ℕ} → Block out → out ≡ f unit → Turned f Ecb dir register unit 128 out register
+  unfolding outOf nextOf cipher plain next
+  ecb-turned Encrypt ho e = record { out-bits = whole ho ∙ ap bits (e ∙ ap f (sym (packed hu))); register-after = refl }
+  ecb-turned Decrypt ho e = record { out-bits = whole ho ∙ ap bits (e ∙ ap f (sym (packed hu))); register-after = refl }
 
-  pub ecb-decrypted : {out : List ℕ} → Block out → out ≡ dec unit → Turned enc dec Ecb Decrypt register unit 128 out register
-  unfolding outOf nextOf plain next
-  ecb-decrypted ho e = record { out-bits = whole ho ∙ ap bits (e ∙ ap dec (sym (packed hu))); register-after = refl }
-
-  pub cbc-encrypted : {out : List ℕ} → Block out → out ≡ enc (xorBytes unit register) → Turned enc dec Cbc Encrypt register unit 128 out out
+  pub cbc-encrypted : {out : List ℕ} → Block out → out ≡ f (xorBytes unit register) → Turned f Cbc Encrypt register unit 128 out out
   unfolding outOf nextOf cipher next
   cbc-encrypted {out} ho e =
-      let same : out ≡ enc (xorBytes (pack (take 128 (bits unit))) register) = e ∙ ap (λ u. enc (xorBytes u register)) (sym (packed hu)) in
+      let same : out ≡ f (xorBytes (pack (take 128 (bits unit))) register) = e ∙ ap (λ u. f (xorBytes u register)) (sym (packed hu)) in
       record { out-bits = whole ho ∙ ap bits same; register-after = sym (block-pack-bits ho) ∙ ap (λ b. pack (bits b)) same }
 
-  pub cbc-decrypted : {out : List ℕ} → Block out → out ≡ xorBytes (dec unit) register → Turned enc dec Cbc Decrypt register unit 128 out unit
+  pub cbc-decrypted : {out : List ℕ} → Block out → out ≡ xorBytes (f unit) register → Turned f Cbc Decrypt register unit 128 out unit
   unfolding outOf nextOf plain next
   cbc-decrypted ho e =
-      record { out-bits = whole ho ∙ ap bits (e ∙ ap (λ u. xorBytes (dec u) register) (sym (packed hu))); register-after = sym (packed hu) }
+      record { out-bits = whole ho ∙ ap bits (e ∙ ap (λ u. xorBytes (f u) register) (sym (packed hu))); register-after = sym (packed hu) }
 
-  -- in CFB, OFB and CTR the first bits of an encrypted block are added
-  module _ (size : ℕ) (le : size ≤ 128) {block out : List ℕ} (hb : Block block) (e : block ≡ enc register) (f : out ≡ xorBytes unit block) where
-    text : take size (bits out) ≡ mask (take size (bits unit)) (enc register)
-    text = ap (λ b. take size (bits b)) f ∙ masked size hu hb le ∙ ap (mask (take size (bits unit))) e
+  -- in CFB, OFB and CTR the first bits of the register's block are added
+  module _ (size : ℕ) (le : size ≤ 128) {block out : List ℕ} (hb : Block block) (e : block ≡ f register) (g : out ≡ xorBytes unit block) where
+    text : take size (bits out) ≡ mask (take size (bits unit)) (f register)
+    text = ap (λ b. take size (bits b)) g ∙ masked size hu hb le ∙ ap (mask (take size (bits unit))) e
 
-    pub cfb-encrypted : {after : List ℕ} → Block out → after ≡ packTo 16 (drop size (bits register) ++ take size (bits out)) → Turned enc dec Cfb Encrypt register unit size out after
+    pub cfb-encrypted : {after : List ℕ} → Block out → after ≡ packTo 16 (drop size (bits register) ++ take size (bits out)) → Turned f Cfb Encrypt register unit size out after
     unfolding outOf nextOf cipher next
-    cfb-encrypted ho g = record { out-bits = text; register-after = g ∙ shifted size hr ho le ∙ ap (λ c. pack (shiftIn (bits register) c)) text }
+    cfb-encrypted ho h = record { out-bits = text; register-after = h ∙ shifted size hr ho le ∙ ap (λ c. pack (shiftIn (bits register) c)) text }
 
-    pub cfb-decrypted : {after : List ℕ} → after ≡ packTo 16 (drop size (bits register) ++ take size (bits unit)) → Turned enc dec Cfb Decrypt register unit size out after
+    pub cfb-decrypted : {after : List ℕ} → after ≡ packTo 16 (drop size (bits register) ++ take size (bits unit)) → Turned f Cfb Decrypt register unit size out after
     unfolding outOf nextOf plain next
-    cfb-decrypted g = record { out-bits = text; register-after = g ∙ shifted size hr hu le }
+    cfb-decrypted h = record { out-bits = text; register-after = h ∙ shifted size hr hu le }
 
-    pub ofb-turned : (dir : Direction) → Turned enc dec Ofb dir register unit size out block
+    pub ofb-turned : (dir : Direction) → Turned f Ofb dir register unit size out block
     unfolding outOf nextOf cipher plain next
     ofb-turned Encrypt = record { out-bits = text; register-after = e }
     ofb-turned Decrypt = record { out-bits = text; register-after = e }
 
-    pub ctr-turned : (dir : Direction) {after : List ℕ} → after ≡ increment register → Turned enc dec Ctr dir register unit size out after
+    pub ctr-turned : (dir : Direction) {after : List ℕ} → after ≡ increment register → Turned f Ctr dir register unit size out after
     unfolding outOf nextOf cipher plain next
-    ctr-turned Encrypt g = record { out-bits = text; register-after = g }
-    ctr-turned Decrypt g = record { out-bits = text; register-after = g }
+    ctr-turned Encrypt h = record { out-bits = text; register-after = h }
+    ctr-turned Decrypt h = record { out-bits = text; register-after = h }
 
 -- ---- a unit's bits, by the mode
 
@@ -107,3 +108,37 @@ unfolding unitSizeOk
 stream-size {size = size} h (inl e) = leb-true size 128 (sym (ap (λ m. unitSizeOk m size) e) ∙ h)
 stream-size {size = size} h (inr (inl e)) = leb-true size 128 (sym (ap (λ m. unitSizeOk m size) e) ∙ h)
 stream-size {size = size} h (inr (inr e)) = leb-true size 128 (sym (ap (λ m. unitSizeOk m size) e) ∙ h)
+
+-- ---- the one block function that a mode runs
+
+module _ {f enc dec : List ℕ → List ℕ} {r : List ℕ} (block : Block r) (u : List Bool) where
+  pub out-same : (mode : Mode) (dir : Direction) → Runs f enc dec mode dir → UnitLength mode (length u) → outOf f f mode dir r u ≡ outOf enc dec mode dir r u
+  unfolding outOf cipher plain next runsDec decrypting UnitLength
+  out-same Ecb Encrypt runs l = rw (runs .same (pack u) (pack-block u l))
+  out-same Ecb Decrypt runs l = rw (runs .same (pack u) (pack-block u l))
+  out-same Cbc Encrypt runs l = rw (runs .same (xorBytes (pack u) r) (xorBytes-block (pack-block u l) block))
+  out-same Cbc Decrypt runs l = rw (runs .same (pack u) (pack-block u l))
+  out-same Cfb Encrypt runs l = rw (runs .same r block)
+  out-same Cfb Decrypt runs l = rw (runs .same r block)
+  out-same Ofb Encrypt runs l = rw (runs .same r block)
+  out-same Ofb Decrypt runs l = rw (runs .same r block)
+  out-same Ctr Encrypt runs l = rw (runs .same r block)
+  out-same Ctr Decrypt runs l = rw (runs .same r block)
+
+  pub next-same : (mode : Mode) (dir : Direction) → Runs f enc dec mode dir → UnitLength mode (length u) → nextOf f f mode dir r u ≡ nextOf enc dec mode dir r u
+  unfolding nextOf cipher next runsDec decrypting UnitLength
+  next-same Ecb Encrypt runs l = refl
+  next-same Ecb Decrypt runs l = refl
+  next-same Cbc Encrypt runs l = rw (runs .same (xorBytes (pack u) r) (xorBytes-block (pack-block u l) block))
+  next-same Cbc Decrypt runs l = refl
+  next-same Cfb Encrypt runs l = rw (runs .same r block)
+  next-same Cfb Decrypt runs l = refl
+  next-same Ofb Encrypt runs l = rw (runs .same r block)
+  next-same Ofb Decrypt runs l = rw (runs .same r block)
+  next-same Ctr Encrypt runs l = refl
+  next-same Ctr Decrypt runs l = refl
+
+-- What was prepared runs it.
+pub runs-prepared : {dec : Bool} {mode : Mode} {dir : Direction} {rounds : ℕ} {keys table last words : List ℕ} → PreparedFor dec rounds keys table last words → dec ≡ runsDec mode dir
+    → Runs (blockBy dec rounds table last words) (Enc rounds keys) (Dec rounds keys) mode dir
+runs-prepared p e = record { same = λ b block. p .same b block ∙ rw e }

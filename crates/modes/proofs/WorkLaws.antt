@@ -22,13 +22,14 @@ use Rattle.rules.proofs.Counts.{unit-there, units-cover}
 use Rattle.rules.proofs.Joined.{unit-length}
 use Rattle.rules.proofs.Taken.{unit-bounds, Taken, taken}
 use Rattle.rules.proofs.Units.{UnitLength}
-use Rattle.rules.proofs.Undo.{part-length, worked-length}
+use Rattle.rules.proofs.Undo.{part-length, registers-block}
 use Rattle.aes.specs.Cipher.{Enc, Dec}
 use Rattle.aes.specs.Calls.{UndoEachOther}
 use Rattle.aes.proofs.CipherLaws.{undo-each-other}
 use Rattle.modes.specs.Questions.{ivOk}
 use Rattle.modes.specs.Turns.{Turned, unitSizeOk}
-use Rattle.modes.specs.Works.{Workable, UnitWorked, Worked}
+use Rattle.modes.specs.Works.{Workable, RunsUnder, UnitWorked, Worked}
+use Rattle.modes.proofs.TurnLaws.{out-same, next-same}
 
 drop-take : {A : Type 0} (a c : ℕ) (z : List A) → drop a (take c z) ≡ take (c - a) (drop a z)
 drop-take zero c z = ap (λ k. take k z) (sym (sub-zero c))
@@ -113,7 +114,7 @@ part-all a l = take-all (length l - a) (drop a l) (omega (arith, length-drop a l
 
 -- ---- one unit
 
-module _ {mode : Mode} {n rounds : ℕ} {keys input : List ℕ} {count : ℕ} {out : List ℕ} (w : Workable mode n rounds keys input count out) {t : ℕ} (h : t < unitsIn n count) where
+module _ {mode : Mode} {n : ℕ} {input : List ℕ} {count : ℕ} {out : List ℕ} (w : Workable mode n input count out) {t : ℕ} (h : t < unitsIn n count) where
   text-length : length (take count (bits input)) ≡ count
   text-length = length-take count (bits input) ∙ min-eq-left (omega (arith, length-bits input, w .within))
 
@@ -123,7 +124,7 @@ module _ {mode : Mode} {n rounds : ℕ} {keys input : List ℕ} {count : ℕ} {o
   unit-bits : length (unitAt n (take count (bits input)) t) ≡ min n (count - t * n)
   unit-bits = unit-length n (take count (bits input)) t ∙ ap (λ k. min n (k - t * n)) text-length
 
-  unit-taken : UnitLength mode (length (unitAt n (take count (bits input)) t))
+  pub unit-taken : UnitLength mode (length (unitAt n (take count (bits input)) t))
   unit-taken =
       taken mode n (take count (bits input)) (w .unit-length) (rw text-length (w .whole)) .unit t (rw text-length h)
 
@@ -134,15 +135,14 @@ module _ {mode : Mode} {n rounds : ℕ} {keys input : List ℕ} {count : ℕ} {o
   unfolding bytesFor
   unit-fits = (omega (arith, unit-bounds mode n (w .unit-length)), omega (arith, unit-inside, w .room))
 
-  pub unit-worked : (dir : Direction) (register : List ℕ) {size : ℕ} {unit text next after : List ℕ} → size ≡ min n (count - t * n)
+  pub unit-worked : {f : List ℕ → List ℕ} {dir : Direction} {register : List ℕ} {size : ℕ} {unit text next after : List ℕ} → size ≡ min n (count - t * n)
       → unit ≡ packTo 16 (take size (drop (t * n % 8) (bits (drop (t * n / 8) input))))
-      → Turned (Enc rounds keys) (Dec rounds keys) mode dir register unit size text next → after ≡ putBits out (t * n) (take size (bits text))
-      → UnitWorked mode dir n rounds keys register input count out t next after
-  unit-worked dir register {size} {unit} e u turned put =
-      let read : take size (bits unit) ≡ unitAt n (take count (bits input)) t = found in
+      → Turned f mode dir register unit size text next → after ≡ putBits out (t * n) (take size (bits text))
+      → UnitWorked f mode dir n register input count out t next after
+  unit-worked {f} {dir} {register} {size} {unit} e u turned put =
       record {
-        register-after = turned .register-after ∙ ap (nextOf (Enc rounds keys) (Dec rounds keys) mode dir register) read;
-        out-after = put ∙ ap (putBits out (t * n)) (turned .out-bits ∙ ap (outOf (Enc rounds keys) (Dec rounds keys) mode dir register) read);
+        register-after = turned .register-after ∙ ap (nextOf f f mode dir register) found;
+        out-after = put ∙ ap (putBits out (t * n)) (turned .out-bits ∙ ap (outOf f f mode dir register) found);
       }
     where
       whole : unit ≡ packTo 16 (unitAt n (take count (bits input)) t)
@@ -170,7 +170,7 @@ pub record Through (mode : Mode) (dir : Direction) (n rounds : ℕ) (keys regist
   pub register-now : r ≡ registerAt (Enc rounds keys) (Dec rounds keys) mode dir n register (take count (bits input)) t
   pub out-now : out ≡ pack (joined t (outAt (Enc rounds keys) (Dec rounds keys) mode dir n register (take count (bits input)))) ++ drop (bytesFor (length (joined t (outAt (Enc rounds keys) (Dec rounds keys) mode dir n register (take count (bits input)))))) old
 
-module _ {mode : Mode} {n rounds : ℕ} {keys input : List ℕ} {count : ℕ} {old : List ℕ} (w : Workable mode n rounds keys input count old) (dir : Direction) {register : List ℕ} (hr : Block register) where
+module _ {mode : Mode} {dir : Direction} {n rounds : ℕ} {keys input : List ℕ} {f : List ℕ → List ℕ} {count : ℕ} {old : List ℕ} (w : Workable mode n input count old) (under : RunsUnder rounds keys mode dir f) {register : List ℕ} (hr : Block register) where
   abbrev text : List Bool
   text = take count (bits input)
 
@@ -182,7 +182,7 @@ module _ {mode : Mode} {n rounds : ℕ} {keys input : List ℕ} {count : ℕ} {o
 
   ciphers : BlockCipher (Enc rounds keys) (Dec rounds keys)
   unfolding UndoEachOther
-  ciphers = undo-each-other rounds keys (w .rounds-ok) (w .keys-bytes)
+  ciphers = undo-each-other rounds keys (under .rounds-ok) (under .keys-bytes)
 
   text-taken : Taken mode n (take count (bits input))
   text-taken = taken mode n (take count (bits input)) (w .unit-length) (rw count-bits (w .whole))
@@ -201,19 +201,22 @@ module _ {mode : Mode} {n rounds : ℕ} {keys input : List ℕ} {count : ℕ} {o
       let f : bytesFor (length (joined t become)) ≤ bytesFor count = fewer (length (joined t become)) count (omega (arith, become-length t h)) in
       omega (arith, l, length-append (pack (joined t become)) (drop (bytesFor (length (joined t become))) old), length-drop (bytesFor (length (joined t become))) old, m, f, w .room)
 
-  pub still-workable : {out : List ℕ} → length out ≡ length old → Workable mode n rounds keys input count out
+  pub still-workable : {out : List ℕ} → length out ≡ length old → Workable mode n input count out
   still-workable e =
-      record { unit-length = w .unit-length; rounds-ok = w .rounds-ok; keys-bytes = w .keys-bytes; whole = w .whole; within = w .within; small = w .small; room = rw e (w .room) }
+      record { unit-length = w .unit-length; whole = w .whole; within = w .within; small = w .small; room = rw e (w .room) }
 
   pub one-through : (t : ℕ) → t < unitsIn n count → {r out next after : List ℕ} → Through mode dir n rounds keys register input count old t r out
-      → UnitWorked mode dir n rounds keys r input count out t next after → Through mode dir n rounds keys register input count old (suc t) next after
+      → UnitWorked f mode dir n r input count out t next after → Through mode dir n rounds keys register input count old (suc t) next after
   unfolding registerAt joined outAt
   one-through t h {out = out} s u =
       let at : length (joined t become) ≡ t * n = become-length t (omega arith) ∙ min-eq-left (omega (arith, unit-there count t (unit-bounds mode n (w .unit-length) .0) .0 h)) in
+      let block = registers-block ciphers dir hr text-taken t (rw count-bits (omega arith)) in
+      let size = unit-taken w h in
       let now = s .register-now in
       record {
-        register-now = u .register-after ∙ ap (λ r. nextOf (Enc rounds keys) (Dec rounds keys) mode dir r (unitAt n text t)) now;
-        out-now = put-next (joined t become) (become t) old (t * n) at (s .out-now) (u .out-after ∙ ap (λ r. putBits out (t * n) (outOf (Enc rounds keys) (Dec rounds keys) mode dir r (unitAt n text t))) now);
+        register-now = u .register-after ∙ ap (λ r. nextOf f f mode dir r (unitAt n text t)) now ∙ next-same block (unitAt n text t) mode dir (under .runs) size;
+        out-now = put-next (joined t become) (become t) old (t * n) at (s .out-now)
+            (u .out-after ∙ ap (putBits out (t * n)) (ap (λ r. outOf f f mode dir r (unitAt n text t)) now ∙ out-same block (unitAt n text t) mode dir (under .runs) size));
       }
 
   pub all-through : {r out : List ℕ} → Through mode dir n rounds keys register input count old (unitsIn n count) r out → Worked mode dir n rounds keys register input count old r out

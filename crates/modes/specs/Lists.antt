@@ -10,7 +10,7 @@ use Rattle.bits.specs.Texts.{bits}
 use Rattle.modes.specs.declared.session.Session.{Session}
 use Rattle.modes.specs.declared.session.Fed.{Fed}
 use Rattle.modes.specs.Sessions.{FedBy}
-use Rattle.modes.specs.Machine.{Machine, machineFeed}
+use Rattle.modes.specs.Machine.{Opening, Machine, machineStart, machineFeed, feedRegisters}
 
 -- One feed: what it was handed, what it returned, and the output afterwards.
 pub record Call : Type 0 where
@@ -49,3 +49,13 @@ allWritten (c ∷ cs) = writtenBits c ++ allWritten cs
 unfoldable pub machineAfter : Machine → List Call → Machine
 machineAfter m [] = m
 machineAfter m (c ∷ cs) = machineAfter (machineFeed m (c .input) (c .count) (length (c .out)) (c .place)) cs
+
+-- The registers of demand 3: the machine's R before its first unit, and after each unit, along the list.
+unfoldable pub registersAfter : Machine → List Call → List (List ℕ)
+registersAfter m [] = []
+registersAfter m (c ∷ cs) =
+    feedRegisters m (c .input) (c .count) (length (c .out)) (c .place)
+    ++ registersAfter (machineFeed m (c .input) (c .count) (length (c .out)) (c .place)) cs
+
+unfoldable pub registers : Opening → List Call → List (List ℕ)
+registers o calls = machineStart o .register ∷ registersAfter (machineStart o) calls

@@ -2,17 +2,16 @@
 -- and nothing else.
 use Prim.Native.Nat.{ℕ, zero, suc, _+_}
 use mathlib.Core.Bool.{Bool, true, false, cond}
-use mathlib.Core.List.{List, [], _++_}
+use mathlib.Core.List.{List, [], _∷_, _++_}
 use lib.Dec.{eqb, ltb}
 use lib.ListN.{length, take, drop}
 use Rattle.bits.specs.Texts.{bits}
-use Rattle.aes.specs.Cipher.{Enc, Dec}
-use Rattle.aes.specs.Calls.{keyRounds, keyBytes}
+use Rattle.aes.specs.Calls.{keyRounds, encrypted, decrypted}
 use Rattle.rules.specs.declared.Mode.{Mode}
 use Rattle.rules.specs.Rules.{start, next, plain, unitsIn}
 use Rattle.modes.specs.Questions.{ask, feedQuestions}
 
--- The arguments of an opening for decryption.
+-- An opening's arguments, but for the direction.
 pub record Opening : Type 0 where
   pub mode : Mode
   pub n : ℕ
@@ -27,28 +26,22 @@ pub record Machine : Type 0 where
   pub ciphertext : List Bool
   pub plaintext : List Bool
 
--- Enc and Dec are AES under the opening's key, whose length gives the rounds.
-unfoldable pub encOf : Opening → List ℕ → List ℕ
-encOf o b = Enc (keyRounds (o .key)) (keyBytes (o .key)) b
-
-unfoldable pub decOf : Opening → List ℕ → List ℕ
-decOf o b = Dec (keyRounds (o .key)) (keyBytes (o .key)) b
-
 unfoldable pub machineStart : Opening → Machine
 machineStart o =
     record { opening = o; register = start (o .mode) (o .iv); units = 0; closed = false; ciphertext = []; plaintext = [] }
 
--- One unit C: both texts grow, R moves, 1 is added to the units. After a short unit it is closed.
+-- One unit C: both texts grow, R moves, 1 is added to the units. After a short unit it is closed. Enc and Dec are AES under the
+-- opening's key, whose length gives the rounds.
 unfoldable pub machineUnit : Machine → List Bool → Machine
 machineUnit m c =
     let o = m .opening in
     record {
       opening = o;
-      register = next (encOf o) (decOf o) (o .mode) (m .register) c;
+      register = next (encrypted (o .key)) (decrypted (o .key)) (o .mode) (m .register) c;
       units = m .units + 1;
       closed = cond (ltb (length c) (o .n)) true (m .closed);
       ciphertext = m .ciphertext ++ c;
-      plaintext = m .plaintext ++ plain (encOf o) (decOf o) (o .mode) (m .register) c;
+      plaintext = m .plaintext ++ plain (encrypted (o .key)) (decrypted (o .key)) (o .mode) (m .register) c;
     }
 
 -- The first k units of a text, one after the other.
@@ -67,6 +60,13 @@ machineFeed m input count size place =
     cond (eqb (machineNumber m (length input) count size place) 0)
     (machineUnits (unitsIn (m .opening .n) count) m (take count (bits input))) m
 
--- The registers of demand 3: R before the first unit of a ciphertext (t = 0), and after each unit.
-unfoldable pub machineRegister : Opening → List Bool → ℕ → List ℕ
-machineRegister o x t = machineUnits t (machineStart o) x .register
+-- R after each unit of a feed, in order.
+unfoldable pub unitRegisters : ℕ → Machine → List Bool → List (List ℕ)
+unitRegisters zero m x = []
+unitRegisters (suc k) m x =
+    let after = machineUnit m (take (m .opening .n) x) in after .register ∷ unitRegisters k after (drop (m .opening .n) x)
+
+unfoldable pub feedRegisters : Machine → List ℕ → ℕ → ℕ → ℕ → List (List ℕ)
+feedRegisters m input count size place =
+    cond (eqb (machineNumber m (length input) count size place) 0)
+    (unitRegisters (unitsIn (m .opening .n) count) m (take count (bits input))) []

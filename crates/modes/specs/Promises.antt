@@ -1,5 +1,5 @@
 -- Demands 1, 2 and 3 for the calls `open` and `feed`.
-use Prim.Native.Nat.{ℕ, suc, _+_, _*_, _≤_, _<_}
+use Prim.Native.Nat.{ℕ, suc, _+_, _*_, _%_, _≤_, _<_}
 use mathlib.Core.Path.{_≡_}
 use mathlib.Core.Logic.{_↔_}
 use mathlib.Core.Bool.{Bool, true, false}
@@ -7,23 +7,24 @@ use mathlib.Core.List.{List, [], _∷_, _++_}
 use lib.ListN.{length, getD, take, drop}
 use Rattle.bits.specs.Texts.{bits, bytesFor}
 use Rattle.bits.specs.Blocks.{Bytes}
+use Rattle.aes.specs.Calls.{encrypted, decrypted}
 use Rattle.rules.specs.declared.Mode.{Mode}
-use Rattle.rules.specs.declared.Mode.the-variants.{Cbc}
+use Rattle.rules.specs.declared.Mode.the-variants.{Ecb, Cbc, Cfb}
 use Rattle.rules.specs.declared.Direction.{Direction}
 use Rattle.rules.specs.declared.Direction.the-variants.{Decrypt}
 use Rattle.rules.specs.Rules.{unitAt, unitsIn}
 use Rattle.rules.specs.Standard.{standard}
 use Rattle.rules.specs.Recovery.{recovers, recoveryUnits}
-use Rattle.rules.specs.Promises.{other, CommonRun, Differ, OneBlockChanged, OneBlockDamaged}
+use Rattle.rules.specs.Promises.{other, CommonRun, Differ, OneUnitChanged, OneBlockChanged, OnlyBlockDamaged, OneBlockDamaged, OneSegmentDamaged}
 use Rattle.modes.specs.declared.session.Session.{Session}
 use Rattle.modes.specs.declared.session.Opened.{Opened}
 use Rattle.modes.specs.declared.session.Fed.{Fed}
 use Rattle.modes.specs.Questions.{Question, ask, feedQuestions}
-use Rattle.modes.specs.Sessions.{Arrays, OpenedBy, FedBy, sessionText, fedText}
-use Rattle.modes.specs.Machine.{Opening, Machine, encOf, decOf, machineStart, machineNumber, machineFeed, machineRegister}
-use Rattle.modes.specs.Lists.{Call, Run, allFed, allWritten, writtenBits, machineAfter}
+use Rattle.modes.specs.Sessions.{Arrays, OpenedBy, refusedSession, FedBy, sessionText, fedText}
+use Rattle.modes.specs.Machine.{Opening, Machine, machineStart, machineNumber, machineFeed}
+use Rattle.modes.specs.Lists.{Call, Run, allFed, allWritten, writtenBits, machineAfter, registers}
 
--- ---- Demand 1, for a manager
+-- ---- Demand 1
 
 -- Refused means unchanged.
 unfoldable pub RefusedUnchanged : Type 0
@@ -45,6 +46,24 @@ AcceptedExact =
     (s : Session) (input : List ℕ) (count : ℕ) (out : List ℕ) (place : ℕ) (r : Fed) (after : List ℕ)
     → Arrays s → FedBy s input count out place r after → r .number ≡ 0 → ExactlyTheNamed s input count out place after
 
+-- A refused opening gives the refused session.
+unfoldable pub RefusedOpening : Type 0
+RefusedOpening =
+    (mode : Mode) (dir : Direction) (n : ℕ) (key iv : List ℕ) (r : Opened) → OpenedBy mode dir n key iv r → (r .number ≡ 0 → ⊥)
+    → r .session ≡ refusedSession
+
+-- A feed of 0 bits changes nothing.
+unfoldable pub NothingFed : Type 0
+NothingFed =
+    (s : Session) (input out : List ℕ) (place : ℕ) (r : Fed) (after : List ℕ) → FedBy s input 0 out place r after
+    → (r .session ≡ s) × (after ≡ out)
+
+-- An accepted feed closes the session exactly where it ends in a short unit.
+unfoldable pub ClosesAfterShort : Type 0
+ClosesAfterShort =
+    (s : Session) (input : List ℕ) (count : ℕ) (out : List ℕ) (place : ℕ) (r : Fed) (after : List ℕ)
+    → FedBy s input count out place r after → r .number ≡ 0 → (r .session .closed ≡ true) ↔ (count % s .n ≡ 0 → ⊥)
+
 -- The number is that of the first question answered 'no': those before it are answered 'yes'.
 pub data FirstNo : List Question → ℕ → Type 0 where
   all-yes : FirstNo [] 0
@@ -58,7 +77,7 @@ NumberIsFirstNo = (qs : List Question) → FirstNo qs (ask qs)
 
 -- A list of feeds on an opened session, in either direction and whatever the cuts.
 pub record TextOf (mode : Mode) (dir : Direction) (n : ℕ) (key iv : List ℕ) (calls : List Call) (t : Session) : Type 0 where
-  pub standard-text : allWritten calls ≡ standard (encOf (record { mode = mode; n = n; key = key; iv = iv })) (decOf (record { mode = mode; n = n; key = key; iv = iv })) mode dir n iv (allFed calls)
+  pub standard-text : allWritten calls ≡ standard (encrypted key) (decrypted key) mode dir n iv (allFed calls)
   pub units : t .units ≡ unitsIn n (length (allFed calls))
 
 unfoldable pub DemandTwo : Type 0
@@ -83,18 +102,26 @@ pub record Same (m : Machine) (s : Session) (plaintext : List Bool) : Type 0 whe
   pub closed : s .closed ≡ m .closed
   pub text : plaintext ≡ m .plaintext
 
--- That after each feed of a list, refused ones too, with the number that it answered; `w` is what was written before.
+-- That after each feed of a list, refused ones too, with the number that it answered; `before` is what was written before them.
 unfoldable pub AgreesThroughout : Machine → List Bool → List Call → Type 0
-AgreesThroughout m w [] = Unit {0}
-AgreesThroughout m w (c ∷ cs) =
+AgreesThroughout m before [] = Unit {0}
+AgreesThroughout m before (c ∷ cs) =
     record {
       number : c .result .number ≡ machineNumber m (length (c .input)) (c .count) (length (c .out)) (c .place);
-      same : Same (machineFeed m (c .input) (c .count) (length (c .out)) (c .place)) (c .result .session) (w ++ writtenBits c);
-      rest : AgreesThroughout (machineFeed m (c .input) (c .count) (length (c .out)) (c .place)) (w ++ writtenBits c) cs;
+      same : Same (machineFeed m (c .input) (c .count) (length (c .out)) (c .place)) (c .result .session) (before ++ writtenBits c);
+      rest : AgreesThroughout (machineFeed m (c .input) (c .count) (length (c .out)) (c .place)) (before ++ writtenBits c) cs;
     }
 
--- The one claim over two lists of decrypting feeds with equal mode, key and n. x and y are the ciphertexts that the machines
--- took, p and q their plaintexts.
+-- One list beside its machine: equality after every feed, and what the machine took and gave are the bits that the accepted feeds
+-- were fed and wrote. There is a register for each unit, and the one before the first.
+pub record Followed (o : Opening) (calls : List Call) : Type 0 where
+  pub agrees : AgreesThroughout (machineStart o) [] calls
+  pub ciphertext : machineAfter (machineStart o) calls .ciphertext ≡ allFed calls
+  pub plaintext : machineAfter (machineStart o) calls .plaintext ≡ allWritten calls
+  pub counted : length (registers o calls) ≡ suc (machineAfter (machineStart o) calls .units)
+
+-- The one claim over two lists of decrypting feeds with equal mode, key and n. x and y are their ciphertexts, p and q their
+-- plaintexts.
 module _ (mode : Mode) (n : ℕ) (key v w : List ℕ) (calls others : List Call) where
   abbrev first : Opening
   first = record { mode = mode; n = n; key = key; iv = v }
@@ -103,29 +130,28 @@ module _ (mode : Mode) (n : ℕ) (key v w : List ℕ) (calls others : List Call)
   second = record { mode = mode; n = n; key = key; iv = w }
 
   abbrev x : List Bool
-  x = machineAfter (machineStart first) calls .ciphertext
+  x = allFed calls
 
   abbrev y : List Bool
-  y = machineAfter (machineStart second) others .ciphertext
+  y = allFed others
 
   abbrev p : List Bool
-  p = machineAfter (machineStart first) calls .plaintext
+  p = allWritten calls
 
   abbrev q : List Bool
-  q = machineAfter (machineStart second) others .plaintext
+  q = allWritten others
 
   pub record Recovered : Type 0 where
-    -- equality with the plain machine, after every feed of each list
-    pub machine : AgreesThroughout (machineStart first) [] calls
-    pub other-machine : AgreesThroughout (machineStart second) [] others
-    -- the registers below are the machines' own: the last of each is its R
-    pub registers : machineAfter (machineStart first) calls .register ≡ machineRegister first x (machineAfter (machineStart first) calls .units)
-    pub other-registers : machineAfter (machineStart second) others .register ≡ machineRegister second y (machineAfter (machineStart second) others .units)
-    -- recovery after loss: for every common run, wherever it begins, plaintext units and registers
+    -- equality with the plain machine
+    pub machine : Followed first calls
+    pub other-machine : Followed second others
+    -- recovery after loss: for every common run, wherever it begins, plaintext units and the machines' registers
     pub run-plain : recovers mode ≡ true → (i j k : ℕ) → CommonRun n x y i j k → (t : ℕ) → recoveryUnits mode n ≤ t → t < k → unitAt n p (i + t) ≡ unitAt n q (j + t)
-    pub run-registers : recovers mode ≡ true → (i j k : ℕ) → CommonRun n x y i j k → (t : ℕ) → recoveryUnits mode n ≤ t → t ≤ k → machineRegister first x (i + t) ≡ machineRegister second y (j + t)
-    -- reach of damage: one changed block in CBC; in OFB and CTR exactly the changed bits
+    pub run-registers : recovers mode ≡ true → (i j k : ℕ) → CommonRun n x y i j k → (t : ℕ) → recoveryUnits mode n ≤ t → t ≤ k → getD (registers first calls) (i + t) [] ≡ getD (registers second others) (j + t) []
+    -- reach of damage: one changed block in ECB and in CBC, one changed segment in CFB; in OFB and CTR exactly the changed bits
+    pub one-block-ecb : mode ≡ Ecb → (j : ℕ) → OneBlockChanged x y j → OnlyBlockDamaged p q j
     pub one-block : mode ≡ Cbc → v ≡ w → (j : ℕ) → OneBlockChanged x y j → OneBlockDamaged x y p q j
+    pub one-segment : mode ≡ Cfb → v ≡ w → (j : ℕ) → OneUnitChanged n x y j → OneSegmentDamaged n x y p q j
     pub same-bits : recovers mode ≡ false → v ≡ w → length x ≡ length y → (b : ℕ) → Differ p q b ↔ Differ x y b
 
 unfoldable pub DemandThree : Type 0

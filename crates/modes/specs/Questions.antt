@@ -1,7 +1,7 @@
 -- Document 01, "Questions before work": each question is a Bool, each call has its list of them, and the first 'no' gives the
 -- number.
 use Prim.Native.Nat.{ℕ, _+_, _-_, _*_, _≤_}
-use mathlib.Core.Bool.{Bool, true, false, cond, not}
+use mathlib.Core.Bool.{Bool, cond, not, _&&_}
 use mathlib.Core.List.{List, [], _∷_}
 use lib.Dec.{leb, eqb}
 use lib.ListN.{length}
@@ -10,7 +10,7 @@ use Rattle.aes.specs.Cipher.{roundsOk}
 use Rattle.aes.specs.Calls.{keyOk}
 use Rattle.rules.specs.declared.Mode.{Mode}
 use Rattle.rules.specs.declared.Mode.the-variants.{Ecb, Cbc, Cfb, Ofb, Ctr}
-use Rattle.rules.specs.Lengths.{both, unitLengthOk, wholeUnits}
+use Rattle.rules.specs.Lengths.{unitLengthOk, wholeUnits}
 use Rattle.rules.specs.Rules.{unitsIn}
 
 -- A question's answer, and the number where it is 'no'.
@@ -22,6 +22,16 @@ pub record Question : Type 0 where
 unfoldable pub ask : List Question → ℕ
 ask [] = 0
 ask (q ∷ qs) = cond (q .yes) (ask qs) (q .number)
+
+-- ---- the limits
+
+-- The largest feed, in bits.
+abbrev pub maxBits : ℕ
+maxBits = 524288
+
+-- The most units that a session does: the largest number of 32 bits.
+abbrev pub maxUnits : ℕ
+maxUnits = 4294967295
 
 -- ---- the questions
 
@@ -35,25 +45,21 @@ ivOk Ctr iv = eqb (length iv) 16
 
 -- 4. Are the session's rounds 10, 12 or 14 and its n as in question 3?
 unfoldable pub sessionOk : Mode → ℕ → ℕ → Bool
-sessionOk mode rounds n = both (roundsOk rounds) (unitLengthOk mode n)
+sessionOk mode rounds n = roundsOk rounds && unitLengthOk mode n
 
 -- 6. Are the bits at most 8 × input bytes and the limit?
 unfoldable pub bitsOk : ℕ → ℕ → ℕ → Bool
-bitsOk limit bytes bits = both (leb bits (8 * bytes)) (leb bits limit)
+bitsOk limit bytes bits = leb bits (8 * bytes) && leb bits limit
 
 -- 8. Is the output place at most the output's length, with enough bytes from there for all that would be written?
 unfoldable pub roomOk : ℕ → ℕ → ℕ → Bool
-roomOk size place bytes = both (leb place size) (leb bytes (size - place))
+roomOk size place bytes = leb place size && leb bytes (size - place)
 
--- 9. Are units done plus new units at most 4,294,967,295?
+-- 9. Are units done plus new units at most the unit limit?
 unfoldable pub unitsOk : ℕ → ℕ → Bool
-unitsOk done new = leb (done + new) 4294967295
+unitsOk done new = leb (done + new) maxUnits
 
 -- ---- the calls' lists
-
--- The largest feed, in bits.
-abbrev pub maxBits : ℕ
-maxBits = 524288
 
 unfoldable pub openQuestions : Mode → ℕ → List ℕ → List ℕ → List Question
 openQuestions mode n key iv =

@@ -19,10 +19,11 @@ use Rattle.modes.specs.declared.session.Opened.{Opened}
 use Rattle.modes.specs.declared.session.Fed.{Fed}
 use Rattle.modes.specs.Questions.{ask, openQuestions, feedQuestions}
 
--- What a session's type says of its arrays, and the list of a contract does not: 16 register bytes, and key bytes.
+-- What a session's type says of its arrays, and the lists of a contract do not: 16 register bytes, and 240 key bytes.
 pub record Arrays (s : Session) : Type 0 where
   pub register : Block (s .register)
   pub keys : Bytes (s .keys)
+  pub keys-size : length (s .keys) ≡ 240
 
 -- ---- open
 

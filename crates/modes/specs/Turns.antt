@@ -1,14 +1,16 @@
 -- What the code of one unit gives, by the unit rules: a unit stands left-aligned in 16 bytes, and so does what it becomes.
 use Prim.Native.Nat.{ℕ}
 use mathlib.Core.Path.{_≡_}
-use mathlib.Core.Bool.{Bool}
+use mathlib.Core.Bool.{Bool, true, false, cond}
 use mathlib.Core.List.{List}
 use lib.Dec.{eqb, leb}
 use lib.ListN.{take}
 use Rattle.bits.specs.Texts.{bits}
+use Rattle.bits.specs.Blocks.{Block}
 use Rattle.rules.specs.declared.Mode.{Mode}
 use Rattle.rules.specs.declared.Mode.the-variants.{Ecb, Cbc, Cfb, Ofb, Ctr}
 use Rattle.rules.specs.declared.Direction.{Direction}
+use Rattle.rules.specs.declared.Direction.the-variants.{Encrypt, Decrypt}
 use Rattle.rules.specs.Rules.{outOf, nextOf}
 
 -- How many bits a unit may have: whole blocks in ECB and CBC, up to a block elsewhere.
@@ -19,6 +21,23 @@ unitSizeOk Cfb size = leb size 128
 unitSizeOk Ofb size = leb size 128
 unitSizeOk Ctr size = leb size 128
 
-pub record Turned (enc dec : List ℕ → List ℕ) (mode : Mode) (dir : Direction) (register unit : List ℕ) (size : ℕ) (out after : List ℕ) : Type 0 where
-  pub out-bits : take size (bits out) ≡ outOf enc dec mode dir register (take size (bits unit))
-  pub register-after : after ≡ nextOf enc dec mode dir register (take size (bits unit))
+-- Which block function a mode runs: in ECB and CBC that of the direction, in CFB, OFB and CTR always Enc.
+unfoldable pub decrypting : Direction → Bool
+decrypting Encrypt = false
+decrypting Decrypt = true
+
+unfoldable pub runsDec : Mode → Direction → Bool
+runsDec Ecb dir = decrypting dir
+runsDec Cbc dir = decrypting dir
+runsDec Cfb dir = false
+runsDec Ofb dir = false
+runsDec Ctr dir = false
+
+-- f is the one that the mode runs.
+pub record Runs (f enc dec : List ℕ → List ℕ) (mode : Mode) (dir : Direction) : Type 0 where
+  pub same : (b : List ℕ) → Block b → f b ≡ cond (runsDec mode dir) (dec b) (enc b)
+
+-- A unit by the block function f, whichever of the two it is.
+pub record Turned (f : List ℕ → List ℕ) (mode : Mode) (dir : Direction) (register unit : List ℕ) (size : ℕ) (out after : List ℕ) : Type 0 where
+  pub out-bits : take size (bits out) ≡ outOf f f mode dir register (take size (bits unit))
+  pub register-after : after ≡ nextOf f f mode dir register (take size (bits unit))

@@ -10,21 +10,27 @@ use Rattle.aes.specs.Cipher.{Enc, Dec, roundsOk}
 use Rattle.rules.specs.declared.Mode.{Mode}
 use Rattle.rules.specs.declared.Direction.{Direction}
 use Rattle.rules.specs.Lengths.{unitLengthOk, wholeUnits}
+use Rattle.modes.specs.Questions.{maxBits}
+use Rattle.modes.specs.Turns.{Runs}
 use Rattle.rules.specs.Rules.{unitsIn, unitAt, outOf, nextOf, registerAt, worked}
 
-pub record Workable (mode : Mode) (n rounds : ℕ) (keys input : List ℕ) (count : ℕ) (out : List ℕ) : Type 0 where
+pub record Workable (mode : Mode) (n : ℕ) (input : List ℕ) (count : ℕ) (out : List ℕ) : Type 0 where
   pub unit-length : unitLengthOk mode n ≡ true
-  pub rounds-ok : roundsOk rounds ≡ true
-  pub keys-bytes : Bytes keys
   pub whole : wholeUnits mode n count ≡ true
   pub within : count ≤ length input * 8
-  pub small : count ≤ 524288
+  pub small : count ≤ maxBits
   pub room : bytesFor count ≤ length out
 
--- Unit t, from the register before it.
-pub record UnitWorked (mode : Mode) (dir : Direction) (n rounds : ℕ) (keys register input : List ℕ) (count : ℕ) (out : List ℕ) (t : ℕ) (result after : List ℕ) : Type 0 where
-  pub register-after : result ≡ nextOf (Enc rounds keys) (Dec rounds keys) mode dir register (unitAt n (take count (bits input)) t)
-  pub out-after : after ≡ putBits out (t * n) (outOf (Enc rounds keys) (Dec rounds keys) mode dir register (unitAt n (take count (bits input)) t))
+-- The block function f is the one that the mode runs under these rounds and round keys.
+pub record RunsUnder (rounds : ℕ) (keys : List ℕ) (mode : Mode) (dir : Direction) (f : List ℕ → List ℕ) : Type 0 where
+  pub rounds-ok : roundsOk rounds ≡ true
+  pub keys-bytes : Bytes keys
+  pub runs : Runs f (Enc rounds keys) (Dec rounds keys) mode dir
+
+-- Unit t by the block function f, from the register before it.
+pub record UnitWorked (f : List ℕ → List ℕ) (mode : Mode) (dir : Direction) (n : ℕ) (register input : List ℕ) (count : ℕ) (out : List ℕ) (t : ℕ) (result after : List ℕ) : Type 0 where
+  pub register-after : result ≡ nextOf f f mode dir register (unitAt n (take count (bits input)) t)
+  pub out-after : after ≡ putBits out (t * n) (outOf f f mode dir register (unitAt n (take count (bits input)) t))
 
 -- All units.
 pub record Worked (mode : Mode) (dir : Direction) (n rounds : ℕ) (keys register input : List ℕ) (count : ℕ) (out result after : List ℕ) : Type 0 where

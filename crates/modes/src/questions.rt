@@ -6,7 +6,7 @@ ghost use Prim.Native.Nat.{_<_, _≤_};
 ghost use Rattle.bits.specs.Texts.{bytesFor};
 ghost use Rattle.rules.specs.Lengths.{wholeUnits};
 ghost use Rattle.rules.specs.Rules.{unitsIn};
-ghost use Rattle.modes.specs.Questions.{ask, ivOk, sessionOk, bitsOk, roomOk, unitsOk, feedQuestions};
+ghost use Rattle.modes.specs.Questions.{ask, ivOk, sessionOk, bitsOk, roomOk, unitsOk, maxBits, feedQuestions};
 
 // Question 2, by the IV's length.
 pub fn iv_ok(mode: Mode, iv: &[u8]) -> bool
@@ -32,16 +32,17 @@ fn session_ok(mode: Mode, rounds: usize, n: usize) -> bool
     }
 }
 
-// Question 6.
+// Question 6. The bits are there where their whole bytes are, and one byte more for spare bits.
 pub fn bits_ok(limit: usize, bytes: usize, bits: usize) -> bool
-    requires { ⌜ limit ≤ 524288 ⌝ }
     ensures { λ r. ⌜ r ≡ bitsOk limit bytes bits ⌝ }
 {
-    if bits <= limit {
-        (bits + 7) / 8 <= bytes
-    } else {
-        false
+    if bits > limit {
+        return false;
     }
+    if bits % 8 == 0 {
+        return bits / 8 <= bytes;
+    }
+    bits / 8 < bytes
 }
 
 // Question 7.
@@ -73,12 +74,12 @@ pub fn room_ok(size: usize, place: usize, bytes: usize) -> bool
 fn units_ok(done: u32, new: usize) -> bool
     ensures { λ r. ⌜ r ≡ unitsOk done new ⌝ }
 {
-    new <= (4294967295 - done) as usize
+    new <= (Session::MAX_UNITS - done) as usize
 }
 
 // How many bytes so many bits need, rounded up.
 pub fn bytes_for(bits: usize) -> usize
-    requires { ⌜ bits ≤ 524288 ⌝ }
+    requires { ⌜ bits ≤ maxBits ⌝ }
     ensures { λ r. ⌜ r ≡ bytesFor bits ⌝ }
 {
     (bits + 7) / 8
@@ -86,7 +87,7 @@ pub fn bytes_for(bits: usize) -> usize
 
 // How many units so many bits have, a short last one included.
 pub fn units_in(n: usize, bits: usize) -> usize
-    requires { ⌜ (0 < n) × (n ≤ 128) × (bits ≤ 524288) ⌝ }
+    requires { ⌜ (0 < n) × (n ≤ 128) × (bits ≤ maxBits) ⌝ }
     ensures { λ r. ⌜ r ≡ unitsIn n bits ⌝ }
 {
     (bits + (n - 1)) / n

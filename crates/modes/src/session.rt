@@ -30,10 +30,14 @@ pub struct Fed {
 }
 
 impl Session {
-    // The block, in bytes, and the largest feed, in bits.
+    // The block, in bytes.
     pub const BLOCK: usize = 16;
 
+    // The largest feed, in bits.
     pub const MAX_BITS: usize = 524288;
+
+    // The most units that a session does.
+    pub const MAX_UNITS: u32 = 4294967295;
 
     fn refused() -> Session
         ensures { λ r. ⌜ r ≡ refusedSession ⌝ }
@@ -75,6 +79,7 @@ impl Session {
         // The IV, and zero bytes where there is none.
         let register = bits::window(iv, 0, 128);
         let keys = schedule.keys;
+        let units: u32 = 0;
         let session = Session {
             mode,
             direction,
@@ -82,7 +87,7 @@ impl Session {
             rounds: schedule.rounds,
             keys,
             register,
-            units: 0,
+            units,
             closed: false,
         };
         Opened { number: 0, session }
@@ -112,20 +117,9 @@ impl Session {
             };
         }
         let keys = self.keys;
-        let register = self.register;
         let n = self.n;
-        let next = work::work(
-            mode,
-            direction,
-            n,
-            self.rounds,
-            &keys,
-            register,
-            input,
-            bits,
-            &mut out[place..],
-        );
-        let units = self.units + questions::units_in(n, bits) as u32;
+        let next = work::work(self, input, bits, &mut out[place..]);
+        let done = self.units + questions::units_in(n, bits) as u32;
         let session = Session {
             mode,
             direction,
@@ -133,7 +127,7 @@ impl Session {
             rounds: self.rounds,
             keys,
             register: next,
-            units,
+            units: done,
             closed: bits % n != 0,
         };
         Fed { number: 0, session }

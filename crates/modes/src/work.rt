@@ -1,12 +1,16 @@
 // The loop over a feed's units.
 use crate::questions;
+use crate::session::Session;
 use crate::turn;
 use rules::Direction;
 use rules::Mode;
 ghost use mathlib.Core.Path.{_≡_};
+ghost use mathlib.Core.Bool.{true};
 ghost use Prim.Native.Nat.{_<_, min};
+ghost use Rattle.aes.specs.Cipher.{roundsOk};
 ghost use Rattle.rules.specs.Rules.{unitsIn};
-ghost use Rattle.modes.specs.Works.{Workable, UnitWorked, Worked};
+ghost use Rattle.prepared.specs.Rounds.{blockBy};
+ghost use Rattle.modes.specs.Works.{Workable, RunsUnder, UnitWorked, Worked};
 
 fn smaller(a: usize, b: usize) -> usize
     ensures { λ r. ⌜ r ≡ min a b ⌝ }
@@ -19,16 +23,19 @@ fn work_unit(
     mode: Mode,
     direction: Direction,
     n: usize,
+    dec: bool,
     rounds: usize,
-    keys: &[u8; 240],
+    table: &[u32; 1024],
+    last: &[u8; 256],
+    words: &[u32; 60],
     register: [u8; 16],
     input: &[u8],
     bits: usize,
     out: &mut [u8],
     t: usize,
 ) -> [u8; 16]
-    requires { ⌜ Workable mode n rounds (now keys) (now input) bits (now out) × (t < unitsIn n bits) ⌝ }
-    ensures { λ r. ⌜ UnitWorked mode direction n rounds (now (keys .entry)) register (now (input .entry)) bits (now (out .entry)) t r (now (out .exit)) ⌝ }
+    requires { ⌜ Workable mode n (now input) bits (now out) × (t < unitsIn n bits) ⌝ }
+    ensures { λ r. ⌜ UnitWorked (blockBy dec rounds (now (table .entry)) (now (last .entry)) (now (words .entry))) mode direction n register (now (input .entry)) bits (now (out .entry)) t r (now (out .exit)) ⌝ }
 {
     let at = t * n;
     let size = smaller(n, bits - at);
@@ -36,8 +43,11 @@ fn work_unit(
     let step = turn::turn(
         mode,
         direction,
+        dec,
         rounds,
-        keys,
+        table,
+        last,
+        words,
         register,
         &input[a..],
         at % 8,
@@ -48,29 +58,67 @@ fn work_unit(
     step.register
 }
 
-// Works the first `bits` bits of `input` unit by unit, writes what they become from the first bit of `out` on, and gives the
-// register after them.
-pub fn work(
-    mode: Mode,
-    direction: Direction,
-    n: usize,
-    rounds: usize,
-    keys: &[u8; 240],
-    register: [u8; 16],
+// Works all units, one after the other, by what was prepared.
+fn work_units<'a>(
+    session: Session,
+    dec: bool,
+    table: &'a [u32; 1024],
+    last: &'a [u8; 256],
+    words: &'a [u32; 60],
     input: &[u8],
     bits: usize,
     out: &mut [u8],
 ) -> [u8; 16]
-    requires { ⌜ Workable mode n rounds (now keys) (now input) bits (now out) ⌝ }
-    ensures { λ r. ⌜ Worked mode direction n rounds (now (keys .entry)) register (now (input .entry)) bits (now (out .entry)) r (now (out .exit)) ⌝ }
+    requires { ⌜ Workable (session .mode) (session .n) (now input) bits (now out) × RunsUnder (session .rounds) (session .keys) (session .mode) (session .direction) (blockBy dec (session .rounds) (now table) (now last) (now words)) ⌝ }
+    ensures { λ r. ⌜ Worked (session .mode) (session .direction) (session .n) (session .rounds) (session .keys) (session .register) (now (input .entry)) bits (now (out .entry)) r (now (out .exit)) ⌝ }
 {
-    let count = questions::units_in(n, bits);
-    let mut r = register;
+    let mode = session.mode;
+    let direction = session.direction;
+    let count = questions::units_in(session.n, bits);
+    let mut moved = session;
     let mut t: usize = 0;
     while t < count {
-        let next = work_unit(mode, direction, n, rounds, keys, r, input, bits, out, t);
-        r = next;
+        let before = moved.register;
+        let next = work_unit(
+            mode,
+            direction,
+            session.n,
+            dec,
+            session.rounds,
+            table,
+            last,
+            words,
+            before,
+            input,
+            bits,
+            out,
+            t,
+        );
+        moved.register = next;
         t += 1;
     }
-    r
+    moved.register
+}
+
+// Works the first `bits` bits of `input`, writes what they become from the first bit of `out` on, and gives the session's register
+// after them. What the block function needs is prepared once.
+pub fn work(session: Session, input: &[u8], bits: usize, out: &mut [u8]) -> [u8; 16]
+    requires { ⌜ Workable (session .mode) (session .n) (now input) bits (now out) × (roundsOk (session .rounds) ≡ true) ⌝ }
+    ensures { λ r. ⌜ Worked (session .mode) (session .direction) (session .n) (session .rounds) (session .keys) (session .register) (now (input .entry)) bits (now (out .entry)) r (now (out .exit)) ⌝ }
+{
+    let mode = session.mode;
+    let direction = session.direction;
+    let keys = session.keys;
+    let dec = turn::runs_dec(mode, direction);
+    let made = prepared::prepare(dec, session.rounds, &keys);
+    work_units(
+        session,
+        dec,
+        &made.table,
+        &made.last,
+        &made.words,
+        input,
+        bits,
+        out,
+    )
 }

@@ -1,17 +1,17 @@
 -- What pad and unpad answer: where the number is 0 and where it is not. Assumes nothing.
 use Prim.Native.Nat.{ℕ, _-_, _*_, _≤_}
 use mathlib.Core.Path.{_≡_, sym, _∙_}
-use mathlib.Core.Bool.{true, false}
+use mathlib.Core.Bool.{true, false, and-eq-true-iff}
 use mathlib.Core.List.{List}
 use native.Mathlib.Omega.{arith}
 use borrow.Author.Tests.{leb-true, eq-eqb, ne-eqb}
-use lib.Dec.{eqb}
+use lib.Dec.{eqb, leb}
 use lib.ListN.{length}
 use Rattle.bits.specs.Texts.{bits, bytesFor}
 use Rattle.modes.specs.Questions.{ask, bitsOk, roomOk, maxBits}
 use Rattle.modes.specs.Sessions.{fedText, written}
-use Rattle.modes.proofs.QuestionLaws.{first-yes, both-true}
-use Rattle.padding.specs.Padding.{padded, paddedLength, padQuestions, padNumber, PaddedBy, unpaddedLength, wholeBlocks, holdsOne, unpadQuestions, unpadNumber, UnpaddedBy}
+use Rattle.modes.proofs.QuestionLaws.{first-yes, bits-small, bits-there}
+use Rattle.padding.specs.Padding.{padded, paddedLength, maxPadBits, padQuestions, padNumber, PaddedBy, unpaddedLength, wholeBlocks, holdsOne, unpadQuestions, unpadNumber, UnpaddedBy}
 use Rattle.padding.proofs.PadLaws.{length-padded, length-fed}
 
 -- ---- pad
@@ -19,7 +19,7 @@ use Rattle.padding.proofs.PadLaws.{length-padded, length-fed}
 -- what an accepted pad was asked
 pub record PadTaken (bytes count size place : ℕ) : Type 0 where
   pub there : count ≤ 8 * bytes
-  pub limit : count ≤ 524287
+  pub limit : count ≤ maxPadBits
   pub inside : place ≤ size
   pub room : bytesFor (paddedLength count) ≤ size - place
 
@@ -29,10 +29,10 @@ pad-taken bytes count size place e6 =
     let (q6, e8) = first-yes _ _ (omega arith) e6 in
     let (q8, e0) = first-yes _ _ (omega arith) e8 in
     record {
-      there = leb-true _ _ (both-true _ _ q6 .0);
-      limit = leb-true _ _ (both-true _ _ q6 .1);
-      inside = leb-true _ _ (both-true _ _ q8 .0);
-      room = leb-true _ _ (both-true _ _ q8 .1);
+      there = bits-there _ _ _ q6;
+      limit = bits-small _ _ _ q6;
+      inside = leb-true _ _ (and-eq-true-iff (leb place size) (leb (bytesFor (paddedLength count)) (size - place)) .0 q8 .0);
+      room = leb-true _ _ (and-eq-true-iff (leb place size) (leb (bytesFor (paddedLength count)) (size - place)) .0 q8 .1);
     }
 
 module _ (input : List ℕ) (count : ℕ) (out : List ℕ) (place : ℕ) {number : ℕ} (asked : number ≡ padNumber (length input) count (length out) place) where

@@ -1,33 +1,31 @@
 -- Questions 6, 7 and 8 by the tests that the code makes. Assumes nothing.
-use Prim.Native.Nat.{ℕ, _+_, _-_, _*_, _/_, _%_, _≤_, _<_}
+use Prim.Native.Nat.{ℕ, _+_, _-_, _*_, _/_, _%_, _≤_}
 use mathlib.Core.Path.{_≡_}
-use mathlib.Core.Bool.{true, false}
+use mathlib.Core.Bool.{true, false, and-false}
 use native.Mathlib.Omega.{arith}
 use lib.Dec.{leb}
 use borrow.Author.Tests.{le-leb, eq-eqb, ne-eqb}
-use Rattle.rules.specs.Lengths.{both}
 use Rattle.modes.specs.Questions.{bitsOk, roomOk}
-use Rattle.modes.proofs.TestLaws.{both-false}
 use Rattle.padding.specs.Padding.{wholeBlocks}
 
 module _ (limit bytes count : ℕ) where
   pub taken : count ≤ limit → (count + 7) / 8 ≤ bytes → bitsOk limit bytes count ≡ true
-  unfolding bitsOk both
+  unfolding bitsOk
   taken h there = rw (le-leb count (8 * bytes) (omega arith), le-leb count limit h)
 
 module _ (size place bytes : ℕ) where
   pub room : place ≤ size → bytes ≤ size - place → roomOk size place bytes ≡ true
-  unfolding roomOk both
+  unfolding roomOk
   room h enough = rw (le-leb place size h, le-leb bytes (size - place) enough)
 
 pub no-bits : (count : ℕ) → count ≡ 0 → wholeBlocks count ≡ false
-unfolding wholeBlocks both
+unfolding wholeBlocks
 no-bits count h = rw h
 
 pub broken-block : (count : ℕ) → (count % 128 ≡ 0 → ⊥) → wholeBlocks count ≡ false
 unfolding wholeBlocks
-broken-block count h = rw (ne-eqb (count % 128) 0 h) (both-false (leb 1 count))
+broken-block count h = rw (ne-eqb (count % 128) 0 h) (and-false (leb 1 count))
 
 pub whole-blocks : (count : ℕ) → (count ≡ 0 → ⊥) → count % 128 ≡ 0 → wholeBlocks count ≡ true
-unfolding wholeBlocks both
+unfolding wholeBlocks
 whole-blocks count some whole = rw (le-leb 1 count (omega arith), eq-eqb (count % 128) 0 whole)

@@ -9,9 +9,10 @@ use lib.ListN.{length, take, drop, set, replicate, length-append, length-take, l
 use lib.Seq.{length-take-le, take-take, take-append-le}
 use Rattle.bits.specs.Texts.{bit, byteBits, bits, bytesFor, pack, putBits}
 use Rattle.bits.proofs.Texts.{length-bits, bits-append, take-bits, length-pack, drop-front}
+use Rattle.modes.specs.Questions.{maxBits}
 use Rattle.modes.specs.Sessions.{fedText, written}
 use Rattle.modes.proofs.WrittenLaws.{written-text, written-size}
-use Rattle.padding.specs.Padding.{zerosFor, padded, paddedLength}
+use Rattle.padding.specs.Padding.{zerosFor, padded, paddedLength, maxPadBits}
 
 -- ---- lengths
 
@@ -23,7 +24,7 @@ pub bytes-padded : (n : ℕ) → bytesFor (paddedLength n) ≡ paddedLength n / 
 unfolding bytesFor
 bytes-padded n = omega (arith, padded-whole n)
 
-pub padded-limit : (n : ℕ) → n ≤ 524287 → paddedLength n ≤ 524288
+pub padded-limit : (n : ℕ) → n ≤ maxPadBits → paddedLength n ≤ maxBits
 unfolding paddedLength zerosFor
 padded-limit n h = omega arith
 

@@ -4,15 +4,15 @@ use mathlib.Core.Path.{_≡_, sym, _∙_}
 use mathlib.Core.Bool.{Bool, true}
 use mathlib.Core.List.{List}
 use native.Mathlib.Omega.{arith}
-use borrow.Author.Tests.{eq-eqb}
+use borrow.Author.Tests.{eq-eqb, ne-eqb}
 use lib.Dec.{eqb}
 use lib.ListN.{length, drop}
 use Rattle.bits.specs.Texts.{bits, bytesFor}
-use Rattle.modes.specs.Questions.{ask}
+use Rattle.modes.specs.Questions.{ask, maxBits}
 use Rattle.modes.specs.Sessions.{fedText, written}
 use Rattle.padding.specs.declared.strip.Unpadded.{Unpadded}
-use Rattle.padding.specs.Padding.{zerosFor, padded, paddedLength, padQuestions, padNumber, upToLastOne, unpaddedLength, holdsOne, unpadNumber, UnpaddedBy}
-use Rattle.padding.specs.Promises.{PaddedWhole, UnpadsPadded, PadAccepts, UnpadAfterPad}
+use Rattle.padding.specs.Padding.{zerosFor, padded, paddedLength, maxPadBits, padQuestions, padNumber, upToLastOne, unpaddedLength, holdsOne, unpadNumber, UnpaddedBy}
+use Rattle.padding.specs.Promises.{PaddedWhole, UnpadsPadded, PadRefusedUnchanged, UnpadRefusedZero, PadAccepts, UnpadAfterPad}
 use Rattle.padding.proofs.NumberLaws.{taken, room, whole-blocks}
 use Rattle.padding.proofs.PadLaws.{length-padded, padded-whole, padded-limit, length-fed, written-fed, written-there}
 use Rattle.padding.proofs.OneLaws.{last-one, holds-one}
@@ -36,22 +36,32 @@ unpads-padded x = rw padded-one
 holds-padded : (x : List Bool) → holdsOne (padded x) ≡ true
 holds-padded x = rw (holds-one, padded-one)
 
+pub pad-refused-unchanged : PadRefusedUnchanged
+unfolding PadRefusedUnchanged
+pad-refused-unchanged input count out place r after by refused =
+    let no = ne-eqb (padNumber (length input) count (length out) place) 0 (λ e. refused (by .answer ∙ e)) in
+    (rw no at (by .size), rw no at (by .output))
+
+pub unpad-refused-zero : UnpadRefusedZero
+unfolding UnpadRefusedZero
+unpad-refused-zero input count r by refused = rw (ne-eqb (unpadNumber input count) 0 (λ e. refused (by .answer ∙ e))) at (by .size)
+
 pub pad-accepts : PadAccepts
 unfolding PadAccepts padNumber padQuestions ask
 pad-accepts input count out place r after by there limit fits =
     by .answer
     ∙ rw (
-      taken 524287 (length input) count limit (omega arith),
+      taken maxPadBits (length input) count limit (omega arith),
       room (length out) place (bytesFor (paddedLength count)) (omega arith) (omega arith),
     )
 
 -- unpad, handed a padded text
-module _ (s : List ℕ) (x : List Bool) (handed : fedText s (length (padded x)) ≡ padded x) (there : length (padded x) ≤ 8 * length s) (limit : length x ≤ 524287) where
+module _ (s : List ℕ) (x : List Bool) (handed : fedText s (length (padded x)) ≡ padded x) (there : length (padded x) ≤ 8 * length s) (limit : length x ≤ maxPadBits) where
   unpad-number : 0 ≡ unpadNumber s (length (padded x))
   unfolding PaddedWhole
   unpad-number =
       let w = padded-texts-whole x in
-      number-0 s (length (padded x)) (taken 524288 (length s) (length (padded x)) (rw length-padded (padded-limit (length x) limit)) (omega arith))
+      number-0 s (length (padded x)) (taken maxBits (length s) (length (padded x)) (rw length-padded (padded-limit (length x) limit)) (omega arith))
       (whole-blocks (length (padded x)) (omega arith) (w .multiple)) (rw handed (holds-padded x))
 
   unpadded-text : (u : Unpadded) → UnpaddedBy s (length (padded x)) u → (u .number ≡ 0) × (u .bits ≡ length x)

@@ -2,12 +2,11 @@
 -- and every byte of the output, for all arguments.
 use Prim.Native.Nat.{ℕ, zero, suc, pred, _+_, _-_, _%_}
 use mathlib.Core.Path.{_≡_}
-use mathlib.Core.Bool.{Bool, true, false, cond}
+use mathlib.Core.Bool.{Bool, true, false, cond, _&&_}
 use mathlib.Core.List.{List, [], _∷_, _++_}
 use lib.Dec.{eqb, leb}
 use lib.ListN.{length, getD, replicate}
 use Rattle.bits.specs.Texts.{bytesFor}
-use Rattle.rules.specs.Lengths.{both}
 use Rattle.modes.specs.Questions.{Question, ask, bitsOk, roomOk, maxBits}
 use Rattle.modes.specs.Sessions.{fedText, written}
 use Rattle.padding.specs.declared.append.Padded.{Padded}
@@ -25,9 +24,13 @@ padded x = x ++ true ∷ replicate (zerosFor (length x)) false
 unfoldable pub paddedLength : ℕ → ℕ
 paddedLength n = n + suc (zerosFor n)
 
+-- The largest text, in bits: padded it is the largest feed.
+abbrev pub maxPadBits : ℕ
+maxPadBits = maxBits - 1
+
 unfoldable pub padQuestions : ℕ → ℕ → ℕ → ℕ → List Question
 padQuestions bytes count size place =
-    record { yes = bitsOk 524287 bytes count; number = 6 } ∷ record { yes = roomOk size place (bytesFor (paddedLength count)); number = 8 } ∷ []
+    record { yes = bitsOk maxPadBits bytes count; number = 6 } ∷ record { yes = roomOk size place (bytesFor (paddedLength count)); number = 8 } ∷ []
 
 unfoldable pub padNumber : ℕ → ℕ → ℕ → ℕ → ℕ
 padNumber bytes count size place = ask (padQuestions bytes count size place)
@@ -51,7 +54,7 @@ unpaddedLength x = pred (upToLastOne x (length x))
 
 -- Question 7, for unpad: a positive multiple of 128?
 unfoldable pub wholeBlocks : ℕ → Bool
-wholeBlocks count = both (leb 1 count) (eqb (count % 128) 0)
+wholeBlocks count = leb 1 count && eqb (count % 128) 0
 
 -- Question 10: does the padded text hold a 1 bit?
 unfoldable pub holdsOne : List Bool → Bool

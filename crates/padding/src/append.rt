@@ -1,4 +1,5 @@
 // Pad: one 1 bit behind the text, then the fewest 0 bits that reach a multiple of 128.
+use crate::BLOCK_BITS;
 use modes::Session;
 ghost use mathlib.Core.Path.{_≡_};
 ghost use mathlib.Core.List.{_++_};
@@ -7,7 +8,7 @@ ghost use lib.ListN.{length, take, drop};
 ghost use Rattle.bits.specs.Texts.{bytesFor, pack};
 ghost use Rattle.modes.specs.Questions.{ask};
 ghost use Rattle.modes.specs.Sessions.{fedText};
-ghost use Rattle.padding.specs.Padding.{padded, paddedLength, padQuestions, PaddedBy};
+ghost use Rattle.padding.specs.Padding.{padded, paddedLength, maxPadBits, padQuestions, PaddedBy};
 
 // The number, and the padded text's length in bits, 0 when refused.
 pub struct Padded {
@@ -16,10 +17,10 @@ pub struct Padded {
 }
 
 fn padded_bits(bits: usize) -> usize
-    requires { ⌜ bits ≤ 524287 ⌝ }
+    requires { ⌜ bits ≤ maxPadBits ⌝ }
     ensures { λ r. ⌜ r ≡ paddedLength bits ⌝ }
 {
-    (bits + 128) / 128 * 128
+    (bits + BLOCK_BITS) / BLOCK_BITS * BLOCK_BITS
 }
 
 // Questions 6 and 8.
@@ -35,12 +36,12 @@ fn pad_number(bytes: usize, bits: usize, size: usize, place: usize) -> u8
     0
 }
 
-fn copy_bytes(input: &[u8], count: usize, out: &mut [u8])
-    requires { ⌜ (count ≤ length (now input)) × (count ≤ length (now out)) ⌝ }
-    ensures { λ _. ⌜ now (out .exit) ≡ take count (now (input .entry)) ++ drop count (now (out .entry)) ⌝ }
+fn copy_bytes(input: &[u8], bytes: usize, out: &mut [u8])
+    requires { ⌜ (bytes ≤ length (now input)) × (bytes ≤ length (now out)) ⌝ }
+    ensures { λ _. ⌜ now (out .exit) ≡ take bytes (now (input .entry)) ++ drop bytes (now (out .entry)) ⌝ }
 {
     let mut i: usize = 0;
-    while i < count {
+    while i < bytes {
         out[i] = input[i];
         i += 1;
     }
@@ -48,13 +49,13 @@ fn copy_bytes(input: &[u8], count: usize, out: &mut [u8])
 
 // The text's bytes, then from its last bit on a 1 bit and 0 bits up to the block's end.
 fn put_padded(input: &[u8], bits: usize, out: &mut [u8])
-    requires { ⌜ (bits ≤ 8 * length (now input)) × (bits ≤ 524287) × (bytesFor (paddedLength bits) ≤ length (now out)) ⌝ }
+    requires { ⌜ (bits ≤ 8 * length (now input)) × (bits ≤ maxPadBits) × (bytesFor (paddedLength bits) ≤ length (now out)) ⌝ }
     ensures { λ _. ⌜ now (out .exit) ≡ pack (padded (fedText (now (input .entry)) bits)) ++ drop (bytesFor (paddedLength bits)) (now (out .entry)) ⌝ }
 {
     copy_bytes(input, (bits + 7) / 8, out);
-    let mut mark = [0u8; 16];
-    mark[0] = 128;
-    bits::put_bits(out, bits, mark, 128 - bits % 128);
+    let mut mark = [0u8; Session::BLOCK];
+    mark[0] = 0x80;
+    bits::put_bits(out, bits, mark, BLOCK_BITS - bits % BLOCK_BITS);
 }
 
 // Pads the first `bits` bits of `input`, and writes the padded text from out[place] on.

@@ -1,9 +1,11 @@
 // Unpad: from the end, pass 0 bits up to the first 1 bit.
+use crate::BLOCK_BITS;
 use modes::Session;
 ghost use mathlib.Core.Path.{_≡_};
 ghost use Prim.Native.Nat.{_*_, _≤_};
 ghost use lib.ListN.{length};
 ghost use Rattle.bits.specs.Texts.{bits, byteBits};
+ghost use Rattle.modes.specs.Questions.{maxBits};
 ghost use Rattle.padding.specs.Padding.{upToLastOne, UnpaddedBy};
 
 // The number, and how many bits the text has, 0 when refused.
@@ -26,12 +28,12 @@ fn used_bits(b: u8) -> usize
     0
 }
 
-// The same of the first `count` bytes of a slice. Zero bytes are passed whole.
-fn used_bits_of(s: &[u8], count: usize) -> usize
-    requires { ⌜ (count ≤ length (now s)) × (count ≤ 65536) ⌝ }
-    ensures { λ r. ⌜ r ≡ upToLastOne (bits (now (s .entry))) (count * 8) ⌝ }
+// The same of the first `bytes` bytes of a slice. Zero bytes are passed whole.
+fn used_bits_of(s: &[u8], bytes: usize) -> usize
+    requires { ⌜ (bytes ≤ length (now s)) × (bytes * 8 ≤ maxBits) ⌝ }
+    ensures { λ r. ⌜ r ≡ upToLastOne (bits (now (s .entry))) (bytes * 8) ⌝ }
 {
-    let mut left = count;
+    let mut left = bytes;
     while left > 0 {
         let b = s[left - 1];
         if b != 0 {
@@ -52,7 +54,7 @@ pub fn unpad(input: &[u8], bits: usize) -> Unpadded
     if bits == 0 {
         return Unpadded { number: 7, bits: 0 };
     }
-    if bits % 128 != 0 {
+    if bits % BLOCK_BITS != 0 {
         return Unpadded { number: 7, bits: 0 };
     }
     let used = used_bits_of(input, bits / 8);

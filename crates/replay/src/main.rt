@@ -12,8 +12,8 @@
 //     alike                                   yes or no
 //
 // A session that a refused opening gave is there before the first `open` and `keep`. A line of another form prints `?` and
-// changes nothing; so does one that is too long: INPUT, TEXT and OUTLEN have at most 65,600 bytes, and the whole line, without
-// its line feed, 133,120. A last line that no line feed ends counts if it is not empty.
+// changes nothing; so does one that is too long: INPUT, TEXT and OUTLEN have at most `MAX_BYTES` bytes, and the whole line, without
+// its line feed, `MAX_LINE`. A last line that no line feed ends counts if it is not empty.
 mod arguments;
 mod commands;
 mod hex;
@@ -26,8 +26,15 @@ mod texts;
 mod words;
 
 use libc::STDIN_FILENO;
+use modes::Session;
 use parts::first;
 use state::State;
+
+// The bytes of INPUT, TEXT and OUTLEN: 64 more than those of the largest feed, so that a list can go past it.
+const MAX_BYTES: usize = Session::MAX_BITS / 8 + 64;
+
+// Two digits for each, and the other words.
+const MAX_LINE: usize = 2 * MAX_BYTES + 1920;
 
 // Adds a byte to the line. A full line is too long, and stays full.
 fn push(line: &mut [u8], len: usize, b: u8) -> usize {
@@ -142,9 +149,9 @@ fn run_all(
 fn main() {
     let mut part = [0u8; 65536];
     // A byte more than the longest line.
-    let mut line = [0u8; 133121];
-    let mut input = [0u8; 65600];
-    let mut out = [0u8; 65600];
+    let mut line = [0u8; MAX_LINE + 1];
+    let mut input = [0u8; MAX_BYTES];
+    let mut out = [0u8; MAX_BYTES];
     let mut text = [0u8; 65536];
     run_all(&mut part, &mut line, &mut input, &mut out, &mut text);
 }

@@ -3,26 +3,6 @@
 use crate::parts::first;
 use libc::STDOUT_FILENO;
 
-// `0` to `9` and `a` to `f`.
-const DIGITS: [u8; 16] = [
-    48,
-    49,
-    50,
-    51,
-    52,
-    53,
-    54,
-    55,
-    56,
-    57,
-    97,
-    98,
-    99,
-    100,
-    101,
-    102,
-];
-
 // A full text is written first.
 fn put(text: &mut [u8; 65536], end: usize, b: u8) -> usize {
     if end < 65536 {
@@ -62,13 +42,11 @@ pub fn number(text: &mut [u8; 65536], end: usize, n: u64, after: u8) -> usize {
     label(text, end, &digits[..count], after)
 }
 
-fn digit(x: u8) -> u8 {
-    DIGITS[(x % 16) as usize]
-}
-
 fn put_hex(text: &mut [u8; 65536], end: usize, b: u8) -> usize {
-    let at = put(text, end, digit(b / 16));
-    put(text, at, digit(b))
+    let mut pair = [0u8; 2];
+    grammar::encode(&[b], &mut pair, 0);
+    let at = put(text, end, pair[0]);
+    put(text, at, pair[1])
 }
 
 // In hexadecimal, and `-` for no bytes.

@@ -1,9 +1,5 @@
 // The commands open and feed.
-use crate::arguments::DirectionWord;
-use crate::arguments::ModeWord;
 use crate::arguments::Output;
-use crate::arguments::direction_word;
-use crate::arguments::mode_word;
 use crate::arguments::output_words;
 use crate::hex;
 use crate::hex::Short;
@@ -14,6 +10,10 @@ use crate::parts::first;
 use crate::print;
 use crate::state::State;
 use crate::words::word;
+use grammar::DirectionWord;
+use grammar::ModeWord;
+use grammar::direction_word;
+use grammar::mode_word;
 use modes::Session;
 use rules::Direction;
 use rules::Mode;

@@ -10,4 +10,3 @@ pub mod Undo
 pub mod Standard
 pub mod Texts
 pub mod Recovering
-pub mod Answers

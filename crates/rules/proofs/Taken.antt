@@ -2,7 +2,7 @@
 -- Assumes nothing.
 use Prim.Native.Nat.{ℕ, _+_, _*_, _%_, _≤_, _<_}
 use mathlib.Core.Path.{_≡_, refl, _∙_}
-use mathlib.Core.Bool.{Bool, true, false}
+use mathlib.Core.Bool.{Bool, true, and-eq-true-iff}
 use mathlib.Core.List.{List}
 use native.Mathlib.Nat.{mul-le-mul-right, mul-add-mod-self-right}
 use native.Mathlib.Omega.{arith}
@@ -11,23 +11,18 @@ use lib.ListN.{length}
 use borrow.Author.Tests.{leb-true, eqb-true}
 use Rattle.rules.specs.declared.Mode.{Mode}
 use Rattle.rules.specs.declared.Mode.the-variants.{Ecb, Cbc, Cfb, Ofb, Ctr}
-use Rattle.rules.specs.Lengths.{both, unitLengthOk, wholeUnits}
+use Rattle.rules.specs.Lengths.{unitLengthOk, wholeUnits}
 use Rattle.rules.specs.Rules.{unitAt, unitsIn}
 use Rattle.rules.proofs.Counts.{whole-units}
 use Rattle.rules.proofs.Joined.{unit-short, unit-full}
 use Rattle.rules.proofs.Units.{UnitLength}
-
-both-true : (a b : Bool) → both a b ≡ true → (a ≡ true) × (b ≡ true)
-unfolding both
-both-true true b h = (refl, h)
-both-true false b h = (h, cc)
 
 -- A unit has from 1 to 128 bits.
 pub unit-bounds : (mode : Mode) (n : ℕ) → unitLengthOk mode n ≡ true → (0 < n) × (n ≤ 128)
 unfolding unitLengthOk
 unit-bounds Ecb n ok = omega (arith, eqb-true n 128 ok)
 unit-bounds Cbc n ok = omega (arith, eqb-true n 128 ok)
-unit-bounds Cfb n ok = (leb-true 1 n (both-true (leb 1 n) (leb n 128) ok .0), leb-true n 128 (both-true (leb 1 n) (leb n 128) ok .1))
+unit-bounds Cfb n ok = let (some, short) = and-eq-true-iff (leb 1 n) (leb n 128) .0 ok in (leb-true 1 n some, leb-true n 128 short)
 unit-bounds Ofb n ok = omega (arith, eqb-true n 128 ok)
 unit-bounds Ctr n ok = omega (arith, eqb-true n 128 ok)
 

@@ -1,19 +1,15 @@
 -- Which unit lengths and message lengths a mode takes (document 01, questions 3 and 7).
 use Prim.Native.Nat.{ℕ, _%_}
-use mathlib.Core.Bool.{Bool, true, false}
+use mathlib.Core.Bool.{Bool, true, false, _&&_}
 use lib.Dec.{leb, eqb}
 use Rattle.rules.specs.declared.Mode.{Mode}
 use Rattle.rules.specs.declared.Mode.the-variants.{Ecb, Cbc, Cfb, Ofb, Ctr}
-
-unfoldable pub both : Bool → Bool → Bool
-both true b = b
-both false b = false
 
 -- Question 3: is n from 1 to 128 in CFB, and 128 elsewhere?
 unfoldable pub unitLengthOk : Mode → ℕ → Bool
 unitLengthOk Ecb n = eqb n 128
 unitLengthOk Cbc n = eqb n 128
-unitLengthOk Cfb n = both (leb 1 n) (leb n 128)
+unitLengthOk Cfb n = leb 1 n && leb n 128
 unitLengthOk Ofb n = eqb n 128
 unitLengthOk Ctr n = eqb n 128
 

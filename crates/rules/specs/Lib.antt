@@ -3,5 +3,4 @@ pub mod Lengths
 pub mod Rules
 pub mod Standard
 pub mod Recovery
-pub mod Answer
 pub mod Promises

@@ -3,11 +3,11 @@ use Prim.Native.Nat.{ℕ, suc, _+_, _*_, _≤_, _<_}
 use mathlib.Core.Path.{_≡_}
 use mathlib.Core.Logic.{_↔_}
 use mathlib.Core.Bool.{Bool, true, false}
-use mathlib.Core.List.{List, _++_}
+use mathlib.Core.List.{List}
 use lib.ListN.{length, getD}
 use Rattle.bits.specs.Blocks.{Block, BlockCipher}
 use Rattle.rules.specs.declared.Mode.{Mode}
-use Rattle.rules.specs.declared.Mode.the-variants.{Cbc}
+use Rattle.rules.specs.declared.Mode.the-variants.{Ecb, Cbc, Cfb}
 use Rattle.rules.specs.declared.Direction.{Direction}
 use Rattle.rules.specs.declared.Direction.the-variants.{Encrypt, Decrypt}
 use Rattle.rules.specs.Lengths.{unitLengthOk, wholeUnits}
@@ -37,19 +37,33 @@ pub record CommonRun (n : ℕ) (x y : List Bool) (i j k : ℕ) : Type 0 where
 abbrev pub Differ : List Bool → List Bool → ℕ → Type 0
 Differ x y b = getD x b false ≡ getD y b false → ⊥
 
--- Two ciphertexts of equal length in which block j, and no other, is changed.
-pub record OneBlockChanged (x y : List Bool) (j : ℕ) : Type 0 where
+-- Two ciphertexts of equal length in which unit j, and no other, is changed.
+pub record OneUnitChanged (n : ℕ) (x y : List Bool) (j : ℕ) : Type 0 where
   pub same-length : length x ≡ length y
-  pub inside : suc j * 128 ≤ length x
-  pub changed : unitAt 128 x j ≡ unitAt 128 y j → ⊥
-  pub others : (t : ℕ) → (t ≡ j → ⊥) → unitAt 128 x t ≡ unitAt 128 y t
+  pub inside : suc j * n ≤ length x
+  pub changed : unitAt n x j ≡ unitAt n y j → ⊥
+  pub others : (t : ℕ) → (t ≡ j → ⊥) → unitAt n x t ≡ unitAt n y t
 
--- What then holds of the two plaintexts p and q.
+abbrev pub OneBlockChanged : List Bool → List Bool → ℕ → Type 0
+OneBlockChanged = OneUnitChanged 128
+
+-- What then holds of the two plaintexts p and q. In ECB:
+pub record OnlyBlockDamaged (p q : List Bool) (j : ℕ) : Type 0 where
+  pub here : unitAt 128 p j ≡ unitAt 128 q j → ⊥
+  pub others : (t : ℕ) → (t ≡ j → ⊥) → unitAt 128 p t ≡ unitAt 128 q t
+
+-- In CBC:
 pub record OneBlockDamaged (x y p q : List Bool) (j : ℕ) : Type 0 where
   pub here : unitAt 128 p j ≡ unitAt 128 q j → ⊥
   -- the next block, if there is one, differs in exactly the changed bits, counted from the block's start
   pub following : suc (suc j) * 128 ≤ length x → (b : ℕ) → Differ (unitAt 128 p (suc j)) (unitAt 128 q (suc j)) b ↔ Differ (unitAt 128 x j) (unitAt 128 y j) b
   pub others : (t : ℕ) → (t ≡ j → ⊥) → (t ≡ suc j → ⊥) → unitAt 128 p t ≡ unitAt 128 q t
+
+-- In CFB: the segment itself differs in exactly the changed bits, and after as many segments more as replace the register all is right.
+pub record OneSegmentDamaged (n : ℕ) (x y p q : List Bool) (j : ℕ) : Type 0 where
+  pub here : (b : ℕ) → Differ (unitAt n p j) (unitAt n q j) b ↔ Differ (unitAt n x j) (unitAt n y j) b
+  pub before : (t : ℕ) → t < j → unitAt n p t ≡ unitAt n q t
+  pub behind : (t : ℕ) → suc j + recoveryUnits Cfb n ≤ t → unitAt n p t ≡ unitAt n q t
 
 -- Demand 3 for two ciphertexts x and y that were decrypted from the IVs v and w, whatever came before a common run.
 module _ (enc dec : List ℕ → List ℕ) (mode : Mode) (n : ℕ) (v w : List ℕ) (x y : List Bool) where
@@ -59,12 +73,14 @@ module _ (enc dec : List ℕ → List ℕ) (mode : Mode) (n : ℕ) (v w : List �
   abbrev plainY : List Bool
   plainY = worked enc dec mode Decrypt n (start mode w) y
 
-  pub record Recovery : Type 0 where
+  pub record RecoveryAndDamage : Type 0 where
     -- recovery after loss: plaintext units and registers
     pub run-plain : recovers mode ≡ true → (i j k : ℕ) → CommonRun n x y i j k → (t : ℕ) → recoveryUnits mode n ≤ t → t < k → unitAt n plainX (i + t) ≡ unitAt n plainY (j + t)
     pub run-registers : recovers mode ≡ true → (i j k : ℕ) → CommonRun n x y i j k → (t : ℕ) → recoveryUnits mode n ≤ t → t ≤ k → registerAt enc dec mode Decrypt n (start mode v) x (i + t) ≡ registerAt enc dec mode Decrypt n (start mode w) y (j + t)
-    -- reach of damage in CBC
+    -- reach of damage in ECB, CBC and CFB
+    pub one-block-ecb : mode ≡ Ecb → (j : ℕ) → OneBlockChanged x y j → OnlyBlockDamaged plainX plainY j
     pub one-block : mode ≡ Cbc → v ≡ w → (j : ℕ) → OneBlockChanged x y j → OneBlockDamaged x y plainX plainY j
+    pub one-segment : mode ≡ Cfb → v ≡ w → (j : ℕ) → OneUnitChanged n x y j → OneSegmentDamaged n x y plainX plainY j
     -- and in OFB and CTR
     pub same-bits : recovers mode ≡ false → v ≡ w → length x ≡ length y → (b : ℕ) → Differ plainX plainY b ↔ Differ x y b
 
@@ -78,4 +94,4 @@ unfoldable pub RecoveryHolds : Type 0
 RecoveryHolds =
     (enc dec : List ℕ → List ℕ) (mode : Mode) (n : ℕ) (v w : List ℕ) (x y : List Bool) → BlockCipher enc dec
     → unitLengthOk mode n ≡ true → wholeUnits mode n (length x) ≡ true → wholeUnits mode n (length y) ≡ true
-    → Block (start mode v) → Block (start mode w) → Recovery enc dec mode n v w x y
+    → Block (start mode v) → Block (start mode w) → RecoveryAndDamage enc dec mode n v w x y

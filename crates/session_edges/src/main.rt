@@ -26,6 +26,9 @@ const KEY: [u8; 16] = [
 
 const IV: [u8; 16] = [0, 1, 2, 3, 4, 5, 6, 7, 8, 9, 10, 11, 12, 13, 14, 15];
 
+// A byte more than those of the largest feed.
+const BYTES: usize = Session::MAX_BITS / 8 + 1;
+
 // The number of an opening.
 fn open(name: &[u8], mode: Mode, n: usize, key: &[u8], iv: &[u8]) {
     let opened = Session::open(mode, Direction::Decrypt, n, key, iv);
@@ -198,7 +201,7 @@ fn limits(input: &[u8]) {
         rounds: 10,
         keys,
         register,
-        units: 4294967294,
+        units: Session::MAX_UNITS - 1,
         closed: false,
     };
     feed(b"one unit left, two fed", late, input, 16, 0);
@@ -214,21 +217,22 @@ fn limits(input: &[u8]) {
     );
 }
 
-// The largest feed, and a bit more.
-fn largest() {
+// A feed into zero bytes, out of a byte more than the largest feed has; its number and the output's last bytes.
+fn large_feed(name: &[u8], bits: usize) {
     let iv = IV;
-    let input = [0u8; 65537];
-    let mut out = [0u8; 65537];
+    let input = [0u8; BYTES];
+    let mut out = [0u8; BYTES];
     let ctr = opened(Mode::Ctr, Direction::Encrypt, 128, &iv);
-    let most = ctr.feed(&input, 524288, &mut out, 0);
-    show::label(b"524288 bits");
-    show::number(most.number as u64);
-    show::bytes(&out[65520..65537]);
+    let fed = ctr.feed(&input, bits, &mut out, 0);
+    show::label(name);
+    show::number(fed.number as u64);
+    show::bytes(&out[BYTES - 17..BYTES]);
     show::end();
-    let more = ctr.feed(&input, 524289, &mut out, 0);
-    show::label(b"524289 bits");
-    show::number(more.number as u64);
-    show::end();
+}
+
+fn largest() {
+    large_feed(b"the largest feed", Session::MAX_BITS);
+    large_feed(b"a bit more", Session::MAX_BITS + 1);
 }
 
 fn main() {

@@ -3,7 +3,7 @@ use native.Mathlib.Nat.{le-trans}
 use native.Mathlib.Omega.{arith}
 use borrow.Author.Needs.{needs}
 use Rattle.grammar.specs.Answers.{Within}
-use Rattle.lines.proofs.RequestLines.{part-size, bad-form, form-fits, opening-small, refused-opening, accepted-opening}
+use Rattle.lines.proofs.RequestLines.{part-size, bad-form, form-fits, opening-prints, refused-opening, accepted-opening}
 use Rattle.lines.proofs.answer.Statement.{statement}
 use Rattle.lines.proofs.answer.Tie as tie
 
@@ -58,7 +58,7 @@ open-with-requires c κs = let w = within (c .before .before) in
 refusal-requires-2 : tie.Need-refusal-requires-2
 refusal-requires-2 c κs =
     let k = c .before .before .before .before .before in
-    let small = opening-small (k .before .before .before .parse .ensures) (k .before .mode .given .1) (c .before .before .open-with .ensures) in
+    let prints = opening-prints (k .before .before .before .parse .ensures) (k .before .mode .given .1) (c .before .before .open-with .ensures) in
     (omega arith, omega arith, omega (arith, c .refusal-arg2 .given .0 .1))
 
 returns-2 : tie.Need-returns-2

@@ -1,7 +1,7 @@
 -- `lines::feed_all` meets its contract: the message is the digits' bytes, and the feed's number decides what is printed (`FeedLines`).
 -- Assumes nothing.
 use mathlib.Core.Path.{sym, ap, _∙_}
-use Prim.Native.Nat.{_/_}
+use Prim.Native.Nat.{ℕ, _/_}
 use native.Mathlib.Omega.{arith}
 use lib.ListN.{length, drop, replicate}
 use lib.Seq.{length-take-le, take-at}
@@ -10,9 +10,12 @@ use Rattle.modes.specs.Sessions.{Arrays}
 use Rattle.grammar.specs.Texts.{hexBytes}
 use Rattle.grammar.proofs.DigitLaws.{length-hexBytes}
 use Rattle.lines.proofs.FeedLines.{decoded, front-there, WholeFeed, whole-feed}
-use borrow.Author.Needs.{needs}
+use borrow.Author.Needs.{needs, length-unmapped}
 use Rattle.lines.proofs.feed_all.Statement.{statement}
 use Rattle.lines.proofs.feed_all.Tie as tie
+
+arrays-are : (s : tie.Start) → Arrays (s .args .session)
+arrays-are s = record { register = search arrays; keys = search arrays; keys-size = length-unmapped ℕ (s .args .session .keys) 240 (search needs) }
 
 -- what the feed tells
 told : (c : tie.After-feed) → let a = c .before .before .before .before .before .before .before .args in
@@ -20,8 +23,7 @@ told : (c : tie.After-feed) → let a = c .before .before .before .before .befor
 told c =
     let s = c .before .before .before .before .before .before .before in
     let digits = s .args .digits .now in
-    let arrays : Arrays (s .args .session) = record { register = search arrays; keys = search arrays } in
-    whole-feed arrays (decoded digits _ (c .before .before .before .before .decode .ensures)) (length-hexBytes digits) (length-take-le _ _ (search needs)) (c .feed .ensures)
+    whole-feed (arrays-are s) (decoded digits (replicate 4096 0) (omega arith) (c .before .before .before .before .decode .ensures)) (length-hexBytes digits) (length-take-le _ _ (search needs)) (c .feed .ensures)
 
 slice-aggregate-decode : tie.Need-slice-aggregate-decode
 slice-aggregate-decode c = search needs
@@ -34,7 +36,7 @@ array-share-prefix-data c = search needs
 
 slice-aggregate-feed : tie.Need-slice-aggregate-feed
 slice-aggregate-feed c = let digits = c .before .before .before .before .before .args .digits .now in
-    sym (ap length (decoded digits _ (c .before .before .decode .ensures)) ∙ length-hexBytes digits)
+    sym (ap length (decoded digits (replicate 4096 0) (omega arith) (c .before .before .decode .ensures)) ∙ length-hexBytes digits)
 
 mul-feed : tie.Need-mul-feed
 mul-feed c = search needs
@@ -49,7 +51,7 @@ feed-requires : tie.Need-feed-requires
 feed-requires c κs = search needs
 
 refusal-requires : tie.Need-refusal-requires
-refusal-requires c κs = (omega arith, omega (arith, told (c .before .before .before) .small), omega (arith, c .refusal-arg .given .0 .1))
+refusal-requires c κs = (omega arith, omega (arith, told (c .before .before .before) .prints), omega (arith, c .refusal-arg .given .0 .1))
 
 returns : tie.Need-returns
 returns c = rw (← told (c .before .before .before .before) .refused (λ z. omega arith)) (c .refusal .ensures)

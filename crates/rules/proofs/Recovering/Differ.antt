@@ -1,14 +1,18 @@
--- Two texts under one mask differ where the texts do. Assumes nothing.
+-- Two texts under one mask differ where the texts do, and a unit is masked with a block's first bits. Assumes nothing.
 use Prim.Native.Nat.{ℕ, _≤_, _<_}
-use mathlib.Core.Path.{_≡_, sym, _∙_}
+use mathlib.Core.Path.{_≡_, sym, ap, _∙_}
 use mathlib.Core.Logic.{_↔_}
 use mathlib.Core.Bool.{Bool, false}
 use mathlib.Core.List.{List}
 use native.Mathlib.Decide.{decLt}
 use native.Mathlib.Omega.{arith}
-use lib.ListN.{length, getD, List·getD-eq-default}
-use Rattle.bits.specs.Texts.{xorBits}
-use Rattle.bits.proofs.Xors.{xorBit-cancel, length-xorBits, getD-xorBits}
+use lib.ListN.{length, take, getD, List·getD-eq-default}
+use lib.Seq.{take-all, take-length}
+use Rattle.bits.specs.Texts.{bits, xorBits}
+use Rattle.bits.specs.Blocks.{Block}
+use Rattle.bits.proofs.Texts.{bits-block}
+use Rattle.bits.proofs.Xors.{xorBit-cancel, length-xorBits, take-xorBits, getD-xorBits}
+use Rattle.rules.specs.Rules.{msb, mask}
 use Rattle.rules.specs.Promises.{Differ}
 
 module _ (x y k : List Bool) (same : length x ≡ length y) (covered : length x ≤ length k) (b : ℕ) where
@@ -30,3 +34,11 @@ module _ (x y k : List Bool) (same : length x ≡ length y) (covered : length x 
 
   pub xor-differ : Differ (xorBits x k) (xorBits y k) b ↔ Differ x y b
   xor-differ = (λ d e. d (xor-same .1 e), λ d e. d (xor-same .0 e))
+
+-- A unit's own length picks the block's first bits.
+pub mask-xor : (u : List Bool) {b : List ℕ} → length u ≤ 128 → Block b → mask u b ≡ xorBits u (bits b)
+unfolding mask msb
+mask-xor u {b} short block =
+    let covered : length u ≤ length (bits b) = omega (arith, bits-block block) in
+    sym (take-xorBits (length u) u (bits b) ∙ ap (λ (v : List Bool). xorBits v (take (length u) (bits b))) (take-length u))
+    ∙ take-all (length u) (xorBits u (bits b)) (omega (arith, length-xorBits u (bits b) covered))

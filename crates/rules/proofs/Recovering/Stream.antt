@@ -8,30 +8,22 @@ use mathlib.Core.List.{List, []}
 use native.Mathlib.Nat.{le-of-lt, zero-mul, suc-mul}
 use native.Mathlib.Omega.{arith}
 use lib.ListN.{length, take, length-take}
-use lib.Seq.{take-all, take-add, take-length}
+use lib.Seq.{take-all, take-add}
 use Rattle.bits.specs.Texts.{bits, xorBits}
 use Rattle.bits.specs.Blocks.{Block, BlockCipher}
 use Rattle.bits.proofs.Texts.{bits-block}
-use Rattle.bits.proofs.Xors.{length-xorBits, take-xorBits, xorBits-append}
+use Rattle.bits.proofs.Xors.{xorBits-append}
 use Rattle.rules.specs.declared.Mode.{Mode}
 use Rattle.rules.specs.declared.Mode.the-variants.{Ecb, Cbc, Cfb, Ofb, Ctr}
 use Rattle.rules.specs.declared.Direction.the-variants.{Decrypt}
-use Rattle.rules.specs.Rules.{msb, mask, next, plain, outOf, nextOf, unitAt, unitsIn, joined, registerAt, outAt, worked}
+use Rattle.rules.specs.Rules.{mask, next, plain, outOf, nextOf, unitAt, unitsIn, joined, registerAt, outAt, worked}
 use Rattle.rules.specs.Recovery.{recovers}
 use Rattle.rules.specs.Promises.{Differ}
 use Rattle.rules.proofs.Counts.{unit-there, units-cover}
 use Rattle.rules.proofs.Joined.{unit-short, joined-length}
 use Rattle.rules.proofs.Taken.{Taken}
 use Rattle.rules.proofs.Undo.{registers-block, worked-by}
-use Rattle.rules.proofs.Recovering.Differ.{xor-differ}
-
--- A unit's own length picks the block's first bits.
-mask-xor : (u : List Bool) {b : List ℕ} → length u ≤ 128 → Block b → mask u b ≡ xorBits u (bits b)
-unfolding mask msb
-mask-xor u {b} short block =
-    let covered : length u ≤ length (bits b) = omega (arith, bits-block block) in
-    sym (take-xorBits (length u) u (bits b) ∙ ap (λ (v : List Bool). xorBits v (take (length u) (bits b))) (take-length u))
-    ∙ take-all (length u) (xorBits u (bits b)) (omega (arith, length-xorBits u (bits b) covered))
+use Rattle.rules.proofs.Recovering.Differ.{xor-differ, mask-xor}
 
 -- Units masked one by one are the text masked once.
 joined-xor : (n : ℕ) (x : List Bool) (f : ℕ → List Bool) (k : ℕ) → ((t : ℕ) → t < k → length (f t) ≡ n) → ((t : ℕ) → t < k → t * n ≤ length x)

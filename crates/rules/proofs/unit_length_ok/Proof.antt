@@ -1,11 +1,11 @@
 -- `rules::unit_length_ok` is question 3, mode by mode. Assumes nothing.
 use mathlib.Core.Path.{sym, ap, _∙_}
-use mathlib.Core.Bool.{Bool}
+use mathlib.Core.Bool.{Bool, _&&_}
 use lib.Dec.{leb}
 use borrow.Author.Needs.{needs}
 use borrow.Author.Tests.{le-leb, lt-leb}
 use Rattle.rules.specs.declared.Mode.{Mode}
-use Rattle.rules.specs.Lengths.{both, unitLengthOk}
+use Rattle.rules.specs.Lengths.{unitLengthOk}
 use Rattle.rules.proofs.unit_length_ok.Statement.{statement}
 use Rattle.rules.proofs.unit_length_ok.Tie as tie
 
@@ -33,17 +33,17 @@ unfolding unitLengthOk
 returns-2 c = cc
 
 returns-3 : tie.Need-returns-3
-unfolding unitLengthOk both
+unfolding unitLengthOk
 returns-3 c =
     let n = c .before .before .before .args .n in
-    sym (ap (λ (m : Mode). unitLengthOk m n) (c .before .enum-told3 .given .1) ∙ ap (λ (b : Bool). both b (leb n 128)) (le-leb 1 n (c .if1 .taken)))
+    sym (ap (λ (m : Mode). unitLengthOk m n) (c .before .enum-told3 .given .1) ∙ ap (λ (b : Bool). b && leb n 128) (le-leb 1 n (c .if1 .taken)))
 
 returns-4 : tie.Need-returns-4
-unfolding unitLengthOk both
+unfolding unitLengthOk
 returns-4 c =
     let n = c .before .before .before .args .n in
     let none = lt-leb 1 n (c .if1 .left) in
-    none ∙ sym (ap (λ (m : Mode). unitLengthOk m n) (c .before .enum-told3 .given .1) ∙ ap (λ (b : Bool). both b (leb n 128)) none)
+    none ∙ sym (ap (λ (m : Mode). unitLengthOk m n) (c .before .enum-told3 .given .1) ∙ ap (λ (b : Bool). b && leb n 128) none)
 
 returns-5 : tie.Need-returns-5
 unfolding unitLengthOk

@@ -9,17 +9,17 @@ use Rattle.aes.proofs.calls.decrypt.Tie as tie
 expand-requires : tie.Need-expand-requires
 expand-requires c κs = search needs
 
-decrypt-block-requires : tie.Need-decrypt-block-requires
-decrypt-block-requires c κs = search needs
+decrypt-under-requires : tie.Need-decrypt-under-requires
+decrypt-under-requires c κs = search needs
 
 returns : tie.Need-returns
 unfolding decrypted
 returns c =
-    let schedule = c .before .before .before .expand .ensures in
+    let schedule = c .before .expand .ensures in
     record {
       answer = schedule .answer;
-      answer-block = c .decrypt-block .ensures ∙ ap₂ (λ n w. Dec n w (c .before .before .before .before .before .args .block)) (schedule .expanded-rounds) (schedule .expanded-keys);
+      answer-block = c .decrypt-under .ensures ∙ ap₂ (λ n w. Dec n w (c .before .before .before .args .block)) (schedule .expanded-rounds) (schedule .expanded-keys);
     }
 
 pub decrypt-spec : {M : Type 1} → statement M
-decrypt-spec = tie.close (tie.spec expand-requires decrypt-block-requires returns)
+decrypt-spec = tie.close (tie.spec expand-requires decrypt-under-requires returns)

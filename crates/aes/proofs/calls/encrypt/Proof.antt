@@ -9,17 +9,17 @@ use Rattle.aes.proofs.calls.encrypt.Tie as tie
 expand-requires : tie.Need-expand-requires
 expand-requires c κs = search needs
 
-encrypt-block-requires : tie.Need-encrypt-block-requires
-encrypt-block-requires c κs = search needs
+encrypt-under-requires : tie.Need-encrypt-under-requires
+encrypt-under-requires c κs = search needs
 
 returns : tie.Need-returns
 unfolding encrypted
 returns c =
-    let schedule = c .before .before .before .expand .ensures in
+    let schedule = c .before .expand .ensures in
     record {
       answer = schedule .answer;
-      answer-block = c .encrypt-block .ensures ∙ ap₂ (λ n w. Enc n w (c .before .before .before .before .before .args .block)) (schedule .expanded-rounds) (schedule .expanded-keys);
+      answer-block = c .encrypt-under .ensures ∙ ap₂ (λ n w. Enc n w (c .before .before .before .args .block)) (schedule .expanded-rounds) (schedule .expanded-keys);
     }
 
 pub encrypt-spec : {M : Type 1} → statement M
-encrypt-spec = tie.close (tie.spec expand-requires encrypt-block-requires returns)
+encrypt-spec = tie.close (tie.spec expand-requires encrypt-under-requires returns)

@@ -1,5 +1,4 @@
--- The code is the definition. Assumes nothing.
-use mathlib.Core.Path.{refl}
+-- Row by row, each call's turn. Assumes nothing.
 use Rattle.field.specs.Rows.{four}
 use Rattle.aes.specs.State.{at, state}
 use Rattle.aes.specs.Steps.{invShiftRows}
@@ -7,140 +6,44 @@ use borrow.Author.Needs.{needs}
 use Rattle.aes.proofs.steps.inv_shift_rows.Statement.{statement}
 use Rattle.aes.proofs.steps.inv_shift_rows.Tie as tie
 
-index-1-t7 : tie.Need-index-1-t7
-index-1-t7 c = search needs
+array-copy-out-turned : tie.Need-array-copy-out-turned
+array-copy-out-turned c = search needs
 
-index-2-t7 : tie.Need-index-2-t7
-index-2-t7 c = search needs
+turned-requires : tie.Need-turned-requires
+turned-requires c κs = search needs
 
-index-1-t12 : tie.Need-index-1-t12
-index-1-t12 c = search needs
+array-copy-out-turned-2 : tie.Need-array-copy-out-turned-2
+array-copy-out-turned-2 c = search needs
 
-index-2-t12 : tie.Need-index-2-t12
-index-2-t12 c = search needs
+turned-requires-2 : tie.Need-turned-requires-2
+turned-requires-2 c κs = search needs
 
-index-1-t17 : tie.Need-index-1-t17
-index-1-t17 c = search needs
+array-copy-out-turned-3 : tie.Need-array-copy-out-turned-3
+array-copy-out-turned-3 c = search needs
 
-index-2-t17 : tie.Need-index-2-t17
-index-2-t17 c = search needs
+turned-requires-3 : tie.Need-turned-requires-3
+turned-requires-3 c κs = search needs
 
-index-1-t22 : tie.Need-index-1-t22
-index-1-t22 c = search needs
+array-copy-out-turned-4 : tie.Need-array-copy-out-turned-4
+array-copy-out-turned-4 c = search needs
 
-index-2-t22 : tie.Need-index-2-t22
-index-2-t22 c = search needs
-
-index-1-t28 : tie.Need-index-1-t28
-index-1-t28 c = search needs
-
-index-2-t28 : tie.Need-index-2-t28
-index-2-t28 c = search needs
-
-index-1-t33 : tie.Need-index-1-t33
-index-1-t33 c = search needs
-
-index-2-t33 : tie.Need-index-2-t33
-index-2-t33 c = search needs
-
-index-1-t38 : tie.Need-index-1-t38
-index-1-t38 c = search needs
-
-index-2-t38 : tie.Need-index-2-t38
-index-2-t38 c = search needs
-
-index-1-t43 : tie.Need-index-1-t43
-index-1-t43 c = search needs
-
-index-2-t43 : tie.Need-index-2-t43
-index-2-t43 c = search needs
-
-index-1-t49 : tie.Need-index-1-t49
-index-1-t49 c = search needs
-
-index-2-t49 : tie.Need-index-2-t49
-index-2-t49 c = search needs
-
-index-1-t54 : tie.Need-index-1-t54
-index-1-t54 c = search needs
-
-index-2-t54 : tie.Need-index-2-t54
-index-2-t54 c = search needs
-
-index-1-t59 : tie.Need-index-1-t59
-index-1-t59 c = search needs
-
-index-2-t59 : tie.Need-index-2-t59
-index-2-t59 c = search needs
-
-index-1-t64 : tie.Need-index-1-t64
-index-1-t64 c = search needs
-
-index-2-t64 : tie.Need-index-2-t64
-index-2-t64 c = search needs
-
-index-1-t70 : tie.Need-index-1-t70
-index-1-t70 c = search needs
-
-index-2-t70 : tie.Need-index-2-t70
-index-2-t70 c = search needs
-
-index-1-t75 : tie.Need-index-1-t75
-index-1-t75 c = search needs
-
-index-2-t75 : tie.Need-index-2-t75
-index-2-t75 c = search needs
-
-index-1-t80 : tie.Need-index-1-t80
-index-1-t80 c = search needs
-
-index-2-t80 : tie.Need-index-2-t80
-index-2-t80 c = search needs
-
-index-1-t85 : tie.Need-index-1-t85
-index-1-t85 c = search needs
-
-index-2-t85 : tie.Need-index-2-t85
-index-2-t85 c = search needs
+turned-requires-4 : tie.Need-turned-requires-4
+turned-requires-4 c κs = search needs
 
 returns : tie.Need-returns
 unfolding four at state invShiftRows
-returns c = refl
+returns c = cc
 
 pub inv-shift-rows-spec : {M : Type 1} → statement M
 inv-shift-rows-spec =
     tie.close
     (tie.spec
-    index-1-t7
-    index-2-t7
-    index-1-t12
-    index-2-t12
-    index-1-t17
-    index-2-t17
-    index-1-t22
-    index-2-t22
-    index-1-t28
-    index-2-t28
-    index-1-t33
-    index-2-t33
-    index-1-t38
-    index-2-t38
-    index-1-t43
-    index-2-t43
-    index-1-t49
-    index-2-t49
-    index-1-t54
-    index-2-t54
-    index-1-t59
-    index-2-t59
-    index-1-t64
-    index-2-t64
-    index-1-t70
-    index-2-t70
-    index-1-t75
-    index-2-t75
-    index-1-t80
-    index-2-t80
-    index-1-t85
-    index-2-t85
+    array-copy-out-turned
+    turned-requires
+    array-copy-out-turned-2
+    turned-requires-2
+    array-copy-out-turned-3
+    turned-requires-3
+    array-copy-out-turned-4
+    turned-requires-4
     returns)

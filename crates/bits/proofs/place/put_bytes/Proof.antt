@@ -1,8 +1,8 @@
 -- `bits::place::put_bytes` meets its contract. The loop's invariant: i bytes are written, and `high` holds the bits of the next one that
 -- come from the byte before it. Assumes nothing.
-use mathlib.Core.Path.{_≡_, refl, sym, ap, ap₂, _∙_}
+use mathlib.Core.Path.{_≡_, refl, sym, ap, _∙_}
 use mathlib.Core.List.{[], _∷_, _++_}
-use Prim.Native.Nat.{ℕ, _≤_, _-_, _+_, _*_, _/_, _%_, _^_}
+use Prim.Native.Nat.{ℕ, _≤_, _<_, _-_, _/_, _^_}
 use native.Mathlib.Numerals.{add-one}
 use native.Mathlib.Omega.{arith}
 use borrow.Author.Needs.{needs}
@@ -11,16 +11,16 @@ use lib.Seq.{paste, paste-zero}
 use Rattle.bits.specs.Texts.{bits, packTo}
 use Rattle.bits.specs.Blocks.{Bytes}
 use Rattle.bits.proofs.Owned.{arrays}
-use Rattle.bits.proofs.Texts.{cons-bytes, packTo-length}
+use Rattle.bits.proofs.Texts.{packTo-length}
 use Rattle.bits.proofs.Packed.{getD-packTo}
 use Rattle.bits.proofs.Fills.{pasted-next}
-use Rattle.bits.proofs.Places.{behind-byte, none-before}
+use Rattle.bits.proofs.Places.{next-byte, none-before}
 use Rattle.bits.proofs.place.put_bytes.Statement.{statement}
 use Rattle.bits.proofs.place.put_bytes.Tie as tie
 
 abbrev Inv-loop : tie.InvT-loop
 Inv-loop out₀ first r count segment high₀ i₀ out high i =
-    (i ≤ count) × (high ≡ getD (high₀ ∷ segment) i 0) × (out ≡ paste out₀ first (packTo count (take r (bits (drop first out₀)) ++ bits segment)) i)
+    (i ≤ count) × (high ≡ getD (getD out₀ first 0 / 2 ^ (8 - r) ∷ segment) i 0) × (out ≡ paste out₀ first (packTo count (take r (bits (drop first out₀)) ++ bits segment)) i)
     × (length out ≡ length out₀)
 
 abbrev μ-loop : tie.MeasureT-loop
@@ -34,8 +34,13 @@ two-bytes-requires c κs = search needs
 
 loop-holds : tie.Need-loop-holds Inv-loop μ-loop
 loop-holds c =
-    let start = c .before .before .before .before .args in
-    (search needs, refl, paste-zero (start .out .now) (start .first) [], refl)
+    let b = c .before .byte-at in
+    let start = c .before .before .before .before .args in (
+      search needs,
+      c .two-bytes .ensures ∙ none-before (b .result) (8 - start .r) (omega arith) ∙ ap (λ (n : ℕ). n / 2 ^ (8 - start .r)) (b .ensures),
+      paste-zero (start .out .now) (start .first) [],
+      refl,
+    )
 
 slice-aggregate-byte-at : tie.Need-slice-aggregate-byte-at Inv-loop μ-loop
 slice-aggregate-byte-at c = search needs
@@ -70,20 +75,16 @@ loop-again c =
     let r = start .r in
     let text = take r (bits (drop first old)) ++ bits (start .t4) in
     let i = at-loop .loop .i in
-    let b = at-loop .before .before .byte-at .result in
-    let high = at-loop .before .two-bytes .result in
-    let kept : high ≡ getD old first 0 / 2 ^ (8 - r) =
-    at-loop .before .two-bytes .ensures ∙ none-before b (8 - r) (omega arith)
-    ∙ ap (λ (n : ℕ). n / 2 ^ (8 - r)) (at-loop .before .before .byte-at .ensures) in
+    let byte : getD old first 0 < 256 = omega (arith, at-loop .before .before .byte-at .ensures) in
     let bytes : Bytes (start .t4) = search arrays in
-    let byte = behind-byte old first r (start .t4) (omega arith) (omega arith) kept (cons-bytes (omega arith) bytes) i in
+    let low = c .before .byte-at2 .ensures in
     let n = packTo-length (start .count) text in (
       omega arith,
-      c .before .byte-at2 .ensures ∙ ap (λ (n : ℕ). getD (high ∷ start .t4) n 0) (sym (add-one i)),
+      low ∙ ap (λ (n : ℕ). getD (getD old first 0 / 2 ^ (8 - r) ∷ start .t4) n 0) (sym (add-one i)),
       pasted-next old first (packTo (start .count) text) i (at-loop .loop .inv .2)
           (c .two-bytes2 .ensures
-          ∙ ap₂ (λ (a b : ℕ). (a * 256 + b) / 2 ^ (8 - (8 - r)) % 256) (at-loop .loop .inv .1) (c .before .byte-at2 .ensures)
-          ∙ sym (getD-packTo (start .count) text i (omega arith) ∙ byte))
+          ∙ next-byte old first r (start .t4) i (omega arith) (omega arith) byte bytes (at-loop .loop .inv .1) low
+          ∙ sym (getD-packTo (start .count) text i (omega arith)))
           (omega arith) (omega arith),
       simp length-set (omega arith),
     )
@@ -94,7 +95,7 @@ same-length c = omega arith
 returns : tie.Need-returns Inv-loop μ-loop
 returns c =
     let e : c .before .loop .i ≡ c .before .before .before .before .before .before .args .count = omega arith in
-    rw e at (c .before .loop .inv .2)
+    (rw e at (c .before .loop .inv .2), rw e at (c .before .loop .inv .1))
 
 pub put-bytes-spec : {M : Type 1} → statement M
 put-bytes-spec =

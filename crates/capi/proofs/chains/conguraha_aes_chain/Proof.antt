@@ -13,7 +13,9 @@ chain-requires c κs = search needs
 
 returns : tie.Need-returns
 unfolding chainUnder
-returns c = record { answer = cc; answer-block = cc }
+returns c =
+    let e = c .before .before .before .before .expand .ensures in
+    record { answer = e .answer; answer-block = rw (← e .expanded-rounds, ← e .expanded-keys) (c .chain .ensures) }
 
 pub conguraha-aes-chain-spec : {M : Type 1} → statement M
 conguraha-aes-chain-spec = tie.close (tie.spec expand-requires chain-requires returns)

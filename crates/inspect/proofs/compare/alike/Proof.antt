@@ -5,7 +5,6 @@ use Prim.Native.Nat.{ℕ}
 use native.Mathlib.Omega.{arith}
 use borrow.Author.Tests.{not-true, not-false}
 use lib.ListN.{length}
-use Rattle.rules.specs.Lengths.{both}
 use Rattle.inspect.specs.Alike.{keysUsed, sameFirst, sameSettings, alikeTo}
 use Rattle.inspect.proofs.AlikeLaws.{keys-inside}
 use borrow.Author.Needs.{needs}
@@ -25,7 +24,7 @@ same-settings-requires : tie.Need-same-settings-requires
 same-settings-requires c κs = search needs
 
 returns : tie.Need-returns
-unfolding alikeTo both
+unfolding alikeTo
 returns c = rw (sym (c .before .same-settings .ensures) ∙ not-true _ (c .if1 .taken))
 
 slice-aggregate-same-first : tie.Need-slice-aggregate-same-first
@@ -45,7 +44,7 @@ same-first-requires c κs =
     (omega (arith, c .keys-used .ensures, keys-inside (a .a .rounds)), omega (arith, c .keys-used .ensures, keys-inside (a .a .rounds)))
 
 returns-2 : tie.Need-returns-2
-unfolding alikeTo both
+unfolding alikeTo
 returns-2 c = rw (settled (c .before .before .before .before .before .before .before), sym (keys-compared (c .before)) ∙ not-true _ (c .if2 .taken))
 
 slice-aggregate-same-first-3 : tie.Need-slice-aggregate-same-first-3
@@ -62,7 +61,7 @@ same-first-requires-2 c κs =
     (omega arith, omega arith)
 
 returns-3 : tie.Need-returns-3
-unfolding alikeTo both
+unfolding alikeTo
 returns-3 c =
     let e = c .before .before .before .before .before in
     rw (settled (e .before .before .before .before .before .before .before), sym (keys-compared (e .before)) ∙ not-false _ (e .if2 .left)) (c .same-first2 .ensures)

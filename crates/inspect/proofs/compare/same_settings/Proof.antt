@@ -3,7 +3,6 @@ use mathlib.Core.Path.{_≡_}
 use mathlib.Core.Bool.{true}
 use borrow.Author.Tests.{eq-eqb, ne-eqb}
 use lib.Dec.{eqb}
-use Rattle.rules.specs.Lengths.{both}
 use Rattle.inspect.specs.Alike.{modeIndex, directionIndex, sameSettings}
 use borrow.Author.Needs.{needs}
 use Rattle.inspect.proofs.compare.same_settings.Statement.{statement}
@@ -23,7 +22,7 @@ mode-index-requires-2 : tie.Need-mode-index-requires-2
 mode-index-requires-2 c κs = search needs
 
 returns : tie.Need-returns
-unfolding sameSettings both
+unfolding sameSettings
 returns c = rw (← c .before .before .mode-index .ensures, ← c .before .mode-index2 .ensures, ne-eqb _ _ (c .if1 .taken))
 
 direction-index-requires : tie.Need-direction-index-requires
@@ -33,16 +32,16 @@ direction-index-requires-2 : tie.Need-direction-index-requires-2
 direction-index-requires-2 c κs = search needs
 
 returns-2 : tie.Need-returns-2
-unfolding sameSettings both
+unfolding sameSettings
 returns-2 c = rw (same-mode (c .before .before .before), ← c .before .before .direction-index .ensures, ← c .before .direction-index2 .ensures, ne-eqb _ _ (c .if2 .taken))
 
 returns-3 : tie.Need-returns-3
-unfolding sameSettings both
+unfolding sameSettings
 returns-3 c = let e = c .before .before .before in
     rw (same-mode (e .before .before .before), same-direction e, ne-eqb _ _ (c .if3 .taken))
 
 returns-4 : tie.Need-returns-4
-unfolding sameSettings both
+unfolding sameSettings
 returns-4 c = let e = c .before .before .before .before .before in
     rw (same-mode (e .before .before .before), same-direction e, eq-eqb _ _ (c .before .before .if3 .left))
 

@@ -1,16 +1,15 @@
 -- `inspect::single::block_ok` meets its contract. Assumes nothing.
 use borrow.Author.Tests.{eq-eqb, ne-eqb}
-use Rattle.rules.specs.Lengths.{both}
 use Rattle.inspect.specs.Single.{blockOk}
 use Rattle.inspect.proofs.single.block_ok.Statement.{statement}
 use Rattle.inspect.proofs.single.block_ok.Tie as tie
 
 returns : tie.Need-returns
-unfolding blockOk both
+unfolding blockOk
 returns c = rw (eq-eqb _ _ (c .if1 .taken))
 
 returns-2 : tie.Need-returns-2
-unfolding blockOk both
+unfolding blockOk
 returns-2 c = rw (ne-eqb _ _ (c .if1 .left))
 
 pub block-ok-spec : {M : Type 1} → statement M

@@ -1,6 +1,5 @@
 -- The rounds first, then n. Assumes nothing.
 use mathlib.Core.Path.{sym, _∙_}
-use Rattle.rules.specs.Lengths.{both}
 use Rattle.modes.specs.Questions.{sessionOk}
 use borrow.Author.Needs.{needs}
 use Rattle.modes.proofs.questions.session_ok.Statement.{statement}
@@ -13,11 +12,11 @@ unit-length-ok-requires : tie.Need-unit-length-ok-requires
 unit-length-ok-requires c κs = search needs
 
 returns : tie.Need-returns
-unfolding sessionOk both
+unfolding sessionOk
 returns c = rw (sym (c .before .before .rounds-ok .ensures) ∙ c .before .if1 .taken) (c .unit-length-ok .ensures)
 
 returns-2 : tie.Need-returns-2
-unfolding sessionOk both
+unfolding sessionOk
 returns-2 c = rw (sym (c .before .rounds-ok .ensures) ∙ c .if1 .left)
 
 pub session-ok-spec : {M : Type 1} → statement M

@@ -1,7 +1,7 @@
 -- The sum is at most the limit where the new units are at most what is left. Assumes nothing.
 use Prim.Native.Nat.{_+_, _-_}
 use native.Mathlib.Omega.{arith}
-use Rattle.modes.specs.Questions.{unitsOk}
+use Rattle.modes.specs.Questions.{unitsOk, maxUnits}
 use Rattle.modes.proofs.TestLaws.{leb-same}
 use borrow.Author.Needs.{needs}
 use Rattle.modes.proofs.questions.units_ok.Statement.{statement}
@@ -15,7 +15,7 @@ cast-result c = search needs
 
 returns : tie.Need-returns
 unfolding unitsOk
-returns c = leb-same (c .args .new) (4294967295 - c .args .done) (c .args .done + c .args .new) 4294967295 (λ h. omega arith) (λ h. omega arith)
+returns c = leb-same (c .args .new) (maxUnits - c .args .done) (c .args .done + c .args .new) maxUnits (λ h. omega arith) (λ h. omega arith)
 
 pub units-ok-spec : {M : Type 1} → statement M
 units-ok-spec = tie.close (tie.spec sub-result cast-result returns)

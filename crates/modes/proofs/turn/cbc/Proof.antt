@@ -11,23 +11,23 @@ enum-told c = search needs
 xor-block-requires : tie.Need-xor-block-requires
 xor-block-requires c κs = search needs
 
-encrypt-block-requires : tie.Need-encrypt-block-requires
-encrypt-block-requires c κs = search needs
+run-requires : tie.Need-run-requires
+run-requires c κs = search needs
 
 enum-told-2 : tie.Need-enum-told-2
 enum-told-2 c = search needs
 
-decrypt-block-requires : tie.Need-decrypt-block-requires
-decrypt-block-requires c κs = search needs
+run-requires-2 : tie.Need-run-requires-2
+run-requires-2 c κs = search needs
 
 xor-block-requires-2 : tie.Need-xor-block-requires-2
 xor-block-requires-2 c κs = search needs
 
 returns : tie.Need-returns
-returns c = rw (c .before .before .enum-told .given .1) (Law.cbc-encrypted _ _ (search arrays) (search arrays) (search arrays) (cc))
+returns c = rw (c .before .before .enum-told .given .1) (Law.cbc-encrypted _ (search arrays) (search arrays) (search arrays) (cc))
 
 returns-2 : tie.Need-returns-2
-returns-2 c = rw (c .before .before .enum-told2 .given .1) (Law.cbc-decrypted _ _ (search arrays) (search arrays) (search arrays) (cc))
+returns-2 c = rw (c .before .before .enum-told2 .given .1) (Law.cbc-decrypted _ (search arrays) (search arrays) (search arrays) (cc))
 
 pub cbc-spec : {M : Type 1} → statement M
 cbc-spec =
@@ -35,9 +35,9 @@ cbc-spec =
     (tie.spec
     enum-told
     xor-block-requires
-    encrypt-block-requires
+    run-requires
     enum-told-2
-    decrypt-block-requires
+    run-requires-2
     xor-block-requires-2
     returns
     returns-2)

@@ -45,7 +45,7 @@ returns c =
     let s = small .before .before .before in
     let a = s .args in
     let at = a .t * a .n in
-    unit-worked (s .pre .0) (s .pre .1) (a .direction) (a .register) (small .smaller .ensures)
+    unit-worked (s .pre .0) (s .pre .1) (small .smaller .ensures)
     (ap (λ l. packTo 16 (take (small .smaller .result) (drop (at % 8) (bits l)))) (part-all (at / 8) (a .input .now))) (turned .turn .ensures)
     (c .before .before .before .put-bits .ensures)
 

@@ -8,10 +8,10 @@ use Rattle.padding.proofs.append.copy_bytes.Statement.{statement}
 use Rattle.padding.proofs.append.copy_bytes.Tie as tie
 
 abbrev Inv-loop : tie.InvT-loop
-Inv-loop input count out₀ i₀ out i = (i ≤ count) × (out ≡ filled out₀ input i) × (length out ≡ length out₀)
+Inv-loop input bytes out₀ i₀ out i = (i ≤ bytes) × (out ≡ filled out₀ input i) × (length out ≡ length out₀)
 
 abbrev μ-loop : tie.MeasureT-loop
-μ-loop input count out₀ i₀ out i = count - i
+μ-loop input bytes out₀ i₀ out i = bytes - i
 
 loop-holds : tie.Need-loop-holds Inv-loop μ-loop
 loop-holds c = (omega arith, refl, refl)
@@ -37,7 +37,7 @@ same-length : tie.Need-same-length Inv-loop μ-loop
 same-length c = omega arith
 
 returns : tie.Need-returns Inv-loop μ-loop
-returns c = let e : c .before .loop .i ≡ c .before .before .args .count = omega arith in
+returns c = let e : c .before .loop .i ≡ c .before .before .args .bytes = omega arith in
     rw e at (c .before .loop .inv .1)
 
 pub copy-bytes-spec : {M : Type 1} → statement M

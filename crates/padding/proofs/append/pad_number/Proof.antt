@@ -6,14 +6,14 @@ use borrow.Author.Tests.{not-true, not-false}
 use Rattle.bits.specs.Texts.{bytesFor}
 use Rattle.modes.specs.Questions.{ask, bitsOk, roomOk}
 use Rattle.modes.proofs.QuestionLaws.{bits-small}
-use Rattle.padding.specs.Padding.{paddedLength, padQuestions}
+use Rattle.padding.specs.Padding.{paddedLength, maxPadBits, padQuestions}
 use Rattle.padding.proofs.PadLaws.{bytes-padded}
 use borrow.Author.Needs.{needs}
 use Rattle.padding.proofs.append.pad_number.Statement.{statement}
 use Rattle.padding.proofs.append.pad_number.Tie as tie
 
 -- what is known past each test
-yes6 : (c : tie.Else1) → bitsOk 524287 (c .before .before .args .bytes) (c .before .before .args .bits) ≡ true
+yes6 : (c : tie.Else1) → bitsOk maxPadBits (c .before .before .args .bytes) (c .before .before .args .bits) ≡ true
 yes6 c = sym (c .before .bits-ok .ensures) ∙ not-false _ (c .if1 .left)
 
 room : (c : tie.After-room-ok) → let a = c .before .before .before .before .args in c .room-ok .result ≡ roomOk (a .size) (a .place) (bytesFor (paddedLength (a .bits)))

@@ -5,7 +5,7 @@ use Prim.Native.Nat.{ℕ, _-_}
 use native.Mathlib.Omega.{arith}
 use borrow.Author.Tests.{not-true, not-false}
 use lib.ListN.{length}
-use Rattle.modes.specs.Questions.{bitsOk}
+use Rattle.modes.specs.Questions.{bitsOk, maxBits}
 use Rattle.modes.proofs.QuestionLaws.{bits-small, bits-there}
 use Rattle.padding.specs.Padding.{wholeBlocks}
 use Rattle.padding.proofs.NumberLaws.{no-bits, broken-block, whole-blocks}
@@ -16,7 +16,7 @@ use Rattle.padding.proofs.strip.unpad.Statement.{statement}
 use Rattle.padding.proofs.strip.unpad.Tie as tie
 
 -- what is known past questions 6 and 7
-yes6 : (c : tie.Else1) → let a = c .before .before .before .args in bitsOk 524288 (length (a .input .now)) (a .bits) ≡ true
+yes6 : (c : tie.Else1) → let a = c .before .before .before .args in bitsOk maxBits (length (a .input .now)) (a .bits) ≡ true
 yes6 c = sym (c .before .bits-ok .ensures) ∙ not-false _ (c .if1 .left)
 
 yes7 : (c : tie.Else3) → let a = c .before .before .before .before .before .args in wholeBlocks (a .bits) ≡ true

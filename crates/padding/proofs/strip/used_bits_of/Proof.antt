@@ -10,10 +10,10 @@ use Rattle.padding.proofs.strip.used_bits_of.Statement.{statement}
 use Rattle.padding.proofs.strip.used_bits_of.Tie as tie
 
 abbrev Inv-loop : tie.InvT-loop
-Inv-loop s count left₀ left = (left ≤ count) × (upToLastOne (bits s) (count * 8) ≡ upToLastOne (bits s) (left * 8))
+Inv-loop s bytes left₀ left = (left ≤ bytes) × (upToLastOne (bits s) (bytes * 8) ≡ upToLastOne (bits s) (left * 8))
 
 abbrev μ-loop : tie.MeasureT-loop
-μ-loop s count left₀ left = left
+μ-loop s bytes left₀ left = left
 
 loop-holds : tie.Need-loop-holds Inv-loop μ-loop
 loop-holds c = (omega arith, refl)

@@ -1,4 +1,5 @@
 -- Refused: the session and the output as they were. Accepted: the units are worked in the part of the output that was named. Assumes nothing.
+use Prim.Native.Nat.{ℕ}
 use mathlib.Core.Path.{_≡_, sym, ap, _∙_}
 use native.Mathlib.Omega.{arith}
 use mathlib.Core.List.{_++_}
@@ -6,23 +7,19 @@ use native.Mathlib.Nat.{min-eq-left}
 use lib.ListN.{length, drop, length-take, length-drop}
 use Rattle.bits.specs.Texts.{bits, bytesFor, pack}
 use Rattle.bits.proofs.Texts.{length-bits, length-pack}
-use Rattle.bits.specs.Blocks.{Bytes, Block}
 use Rattle.bits.proofs.Owned.{arrays}
 use Rattle.rules.proofs.Taken.{unit-bounds}
-use Rattle.modes.specs.Sessions.{feedNumber, fedText, sessionText, sessionRegister}
+use Rattle.modes.specs.Sessions.{Arrays, feedNumber, fedText, sessionText, sessionRegister}
 use Rattle.modes.proofs.QuestionLaws.{FeedTaken, feed-taken}
 use Rattle.modes.proofs.AnswerLaws.{feed-refused, feed-accepted, part-written, moved}
 use Rattle.modes.proofs.SessionLaws.{Ready, text-length}
 use Rattle.modes.proofs.WorkLaws.{part-all}
-use borrow.Author.Needs.{needs}
+use borrow.Author.Needs.{needs, length-unmapped}
 use Rattle.modes.proofs.session.Session.feed.Statement.{statement}
 use Rattle.modes.proofs.session.Session.feed.Tie as tie
 
-keys-are : (s : tie.Start) → Bytes (s .args .self .keys)
-keys-are s = search arrays
-
-register-is : (s : tie.Start) → Block (s .args .self .register)
-register-is s = search arrays
+arrays-are : (s : tie.Start) → Arrays (s .args .self)
+arrays-are s = record { register = search arrays; keys = search arrays; keys-size = length-unmapped ℕ (s .args .self .keys) 240 (search needs) }
 
 -- an accepted feed's answers
 answers : (c : tie.Else1) → let a = c .before .before .before .before .args in FeedTaken (a .self .mode) (a .self .rounds) (a .self .n) (a .self .closed) (a .self .units) (length (a .input .now)) (a .bits) (length (a .out .now)) (a .place)
@@ -40,7 +37,7 @@ become-bytes c =
     let s = c .before .before .before .before in
     let a = s .args in
     let q = answers c in
-    let ready : Ready (a .self) = record { arrays = record { register = register-is s; keys = keys-are s }; rounds-good = q .rounds-good; unit = q .unit } in
+    let ready : Ready (a .self) = record { arrays = arrays-are s; rounds-good = q .rounds-good; unit = q .unit } in
     length-pack (sessionText (a .self) (fedText (a .input .now) (a .bits)))
     ∙ ap bytesFor (text-length ready (fedText (a .input .now) (a .bits)) (rw (fed-length c) (q .whole)) ∙ fed-length c)
 
@@ -52,44 +49,47 @@ unfolding feedNumber
 returns c = feed-refused _ _ _ _ _ (c .before .feed-number .ensures) (c .if1 .taken)
 
 sub-work : tie.Need-sub-work
-sub-work c = let q = answers (c .before .before .before) in omega (arith, q .inside)
+sub-work c = let q = answers (c .before) in omega (arith, q .inside)
 
 part-work-start : tie.Need-part-work-start
-part-work-start c = let q = answers (c .before .before .before) in omega (arith, q .inside)
+part-work-start c = let q = answers (c .before) in omega (arith, q .inside)
 
 part-work-end : tie.Need-part-work-end
 part-work-end c = search needs
 
 work-requires : tie.Need-work-requires
 work-requires c κs =
-    let k = c .before in
-    let e = k .before .before .before in
+    let e = c .before .before in
     let q = answers e in
-    let s = e .before .before .before .before in
-    record {
-      unit-length = q .unit;
-      rounds-ok = q .rounds-good;
-      keys-bytes = keys-are s;
-      whole = q .whole;
-      within = omega (arith, q .there);
-      small = q .limit;
-      room = rw (part-all (s .args .place) (s .args .out .now), length-drop (s .args .place) (s .args .out .now)) (q .room);
-    }
+    let s = e .before .before .before .before in (
+      record {
+        unit-length = q .unit;
+        whole = q .whole;
+        within = omega (arith, q .there);
+        small = q .limit;
+        room = rw (part-all (s .args .place) (s .args .out .now), length-drop (s .args .place) (s .args .out .now)) (q .room);
+      },
+      q .rounds-good,
+    )
+
+-- past the work: back to the questions' answers
+abbrev asked : tie.After-slice-known2 → tie.Else1
+asked c = c .before .before .before .before .before
 
 units-in-requires : tie.Need-units-in-requires
 units-in-requires c κs =
-    let q = answers (c .before .before .before .before .before .before .before) in
+    let q = answers (asked c) in
     let b = unit-bounds _ _ (q .unit) in
     omega (arith, b, q .limit)
 
-cast-units : tie.Need-cast-units
-cast-units c = let q = answers (c .before .before .before .before .before .before .before .before) in omega (arith, q .counted, c .units-in .ensures)
+cast-done : tie.Need-cast-done
+cast-done c = let q = answers (asked (c .before)) in omega (arith, q .counted, c .units-in .ensures)
 
-add-units : tie.Need-add-units
-add-units c = let q = answers (c .before .before .before .before .before .before .before .before .before) in omega (arith, q .counted, c .before .units-in .ensures)
+add-done : tie.Need-add-done
+add-done c = let q = answers (asked (c .before .before)) in omega (arith, q .counted, c .before .units-in .ensures)
 
-rem-t15 : tie.Need-rem-t15
-rem-t15 c = let q = answers (c .before .before .before .before .before .before .before .before .before) in unit-bounds _ _ (q .unit) .0
+rem-t14 : tie.Need-rem-t14
+rem-t14 c = let q = answers (asked (c .before .before)) in unit-bounds _ _ (q .unit) .0
 
 same-length : tie.Need-same-length
 same-length c = search needs
@@ -98,7 +98,7 @@ returns-2 : tie.Need-returns-2
 unfolding feedNumber sessionRegister sessionText fedText
 returns-2 c =
     let w = c .before .before .before .before in
-    let e = c .before .before .before .before .before .before .before .before .before in
+    let e = asked (c .before .before) in
     let a = e .before .before .before .before .args in
     let q = answers e in
     let text = sessionText (a .self) (fedText (a .input .now) (a .bits)) in
@@ -118,8 +118,8 @@ feed-spec =
     part-work-end
     work-requires
     units-in-requires
-    cast-units
-    add-units
-    rem-t15
+    cast-done
+    add-done
+    rem-t14
     same-length
     returns-2)

@@ -1,0 +1,22 @@
+-- `capi::sessions::decrypts` meets its contract, direction by direction. Assumes nothing.
+use borrow.Author.Needs.{needs}
+use Rattle.capi.specs.Held.{directionDecrypts}
+use Rattle.capi.proofs.sessions.decrypts.Statement.{statement}
+use Rattle.capi.proofs.sessions.decrypts.Tie as tie
+
+enum-told : tie.Need-enum-told
+enum-told c = search needs
+
+enum-told-2 : tie.Need-enum-told-2
+enum-told-2 c = search needs
+
+returns : tie.Need-returns
+unfolding directionDecrypts
+returns c = cc
+
+returns-2 : tie.Need-returns-2
+unfolding directionDecrypts
+returns-2 c = cc
+
+pub decrypts-spec : {M : Type 1} → statement M
+decrypts-spec = tie.close (tie.spec enum-told enum-told-2 returns returns-2)

@@ -1,0 +1,19 @@
+// What is prepared once for many blocks.
+use crate::keys;
+use crate::table;
+ghost use Rattle.prepared.specs.Prepared.{PreparedFor};
+
+pub struct Prepared {
+    pub table: [u32; 1024],
+    pub last: [u8; 256],
+    pub words: [u32; 60],
+}
+
+pub fn prepare(decrypting: bool, rounds: usize, keys: &[u8; 240]) -> Prepared
+    ensures { λ r. ⌜ PreparedFor decrypting rounds (now (keys .entry)) (r .table) (r .last) (r .words) ⌝ }
+{
+    let last = table::substitution(decrypting);
+    let table = table::fill_table(decrypting, &last);
+    let words = keys::schedule(decrypting, rounds, keys);
+    Prepared { table, last, words }
+}

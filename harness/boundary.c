@@ -1,0 +1,422 @@
+/* The boundary as a program in C11 or C++17 meets it. All that a call is lent stands in one struct, each thing between known
+   bytes, and after the call the whole struct is compared with what the call may have made of it. So a byte beside its place
+   shows, and so does a field that is wider or narrower in the library than in the header. The texts are those of FIPS 197 and
+   SP 800-38A. Ends with status 0 where all is as expected. */
+#include "conguraha.h"
+#include <stdio.h>
+#include <string.h>
+
+#define KNOWN 0xa5
+#define GUARD(name) uint8_t name[16]
+
+struct lent {
+    GUARD(before_key);
+    uint8_t key[48];
+    GUARD(before_iv);
+    uint8_t iv[32];
+    GUARD(before_block);
+    uint8_t block[CONGURAHA_BLOCK];
+    GUARD(before_mode);
+    size_t mode;
+    GUARD(before_decrypting);
+    bool decrypting;
+    GUARD(before_n);
+    size_t n;
+    GUARD(before_rounds);
+    size_t rounds;
+    GUARD(before_keys);
+    uint8_t keys[CONGURAHA_KEYS];
+    GUARD(before_reg);
+    uint8_t reg[CONGURAHA_BLOCK];
+    GUARD(before_units);
+    uint32_t units;
+    GUARD(before_closed);
+    bool closed;
+    GUARD(before_session);
+    struct conguraha_session session;
+    GUARD(before_input);
+    uint8_t input[CONGURAHA_MAX_BITS / 8 + 16];
+    GUARD(before_out);
+    uint8_t out[CONGURAHA_MAX_BITS / 8 + 16];
+    GUARD(last);
+};
+
+#define PART(name) {offsetof(struct lent, name), #name}
+static const struct {
+    size_t at;
+    const char *name;
+} PARTS[] = {PART(key),  PART(iv),  PART(block), PART(mode),   PART(decrypting), PART(n),     PART(rounds),
+             PART(keys), PART(reg), PART(units), PART(closed), PART(session),    PART(input), PART(out)};
+
+static struct lent lent, expected;
+static int checks, failures;
+
+/* A bool is lent with a value of its own; what else a call writes holds known bytes before. */
+static void fill(void)
+{
+    memset(&lent, KNOWN, sizeof lent);
+    lent.decrypting = false;
+    lent.closed = false;
+    lent.session.decrypting = false;
+    lent.session.closed = false;
+}
+
+/* To be called before the call, and `check` after it, with what is to change put into `expected` between the two. */
+static void as_lent(void) { memcpy(&expected, &lent, sizeof lent); }
+
+static void check(const char *what, size_t at, unsigned answer, unsigned wanted)
+{
+    const uint8_t *came = (const uint8_t *)&lent, *should = (const uint8_t *)&expected;
+    size_t i = 0, part = sizeof PARTS / sizeof *PARTS - 1;
+    checks++;
+    while (i < sizeof lent && came[i] == should[i])
+        i++;
+    if (answer == wanted && i == sizeof lent)
+        return;
+    failures++;
+    printf("FAILED %s (%zu): answered %u, expected %u", what, at, answer, wanted);
+    while (part > 0 && PARTS[part].at > i)
+        part--;
+    if (i < sizeof lent)
+        printf("; %s[%td] is %02x, expected %02x", PARTS[part].name, (ptrdiff_t)(i - PARTS[part].at), came[i], should[i]);
+    printf("\n");
+}
+
+static size_t hex(uint8_t *bytes, const char *digits)
+{
+    size_t count = strlen(digits) / 2;
+    for (size_t i = 0; i < count; i++) {
+        unsigned byte = 0;
+        if (sscanf(digits + 2 * i, "%2x", &byte) != 1)
+            failures++;
+        bytes[i] = (uint8_t)byte;
+    }
+    return count;
+}
+
+/* ---- keys and blocks */
+
+/* FIPS 197, appendices A and C: a key, its rounds and its last round key; a key, and the block 00112233..ff under it. */
+static const struct {
+    const char *key;
+    size_t rounds;
+    const char *last;
+} EXPANSIONS[] = {
+    {"2b7e151628aed2a6abf7158809cf4f3c", 10, "d014f9a8c9ee2589e13f0cc8b6630ca6"},
+    {"8e73b0f7da0e6452c810f32b809079e562f8ead2522c6b7b", 12, "e98ba06f448c773c8ecc720401002202"},
+    {"603deb1015ca71be2b73aef0857d77811f352c073b6108d72d9810a30914dff4", 14, "fe4890d1e6188d0b046df344706c631e"},
+};
+static const char *const PLAIN = "00112233445566778899aabbccddeeff";
+static const struct {
+    const char *key, *cipher;
+} BLOCKS[] = {
+    {"000102030405060708090a0b0c0d0e0f", "69c4e0d86a7b0430d8cdb78070b4c55a"},
+    {"000102030405060708090a0b0c0d0e0f1011121314151617", "dda97ca4864cdfe06eaf70a0ec0d7191"},
+    {"000102030405060708090a0b0c0d0e0f101112131415161718191a1b1c1d1e1f", "8ea2b7ca516745bfeafc49904b496089"},
+};
+static const size_t NO_KEY[] = {0, 1, 15, 17, 23, 25, 31, 33, 48};
+
+static void expansions(void)
+{
+    for (size_t i = 0; i < 3; i++) {
+        fill();
+        size_t length = hex(lent.key, EXPANSIONS[i].key), end = 16 * (EXPANSIONS[i].rounds + 1);
+        as_lent();
+        uint8_t answer = conguraha_aes_expand(lent.key, length, &lent.rounds, lent.keys);
+        expected.rounds = EXPANSIONS[i].rounds;
+        memset(expected.keys, 0, sizeof expected.keys);
+        memcpy(expected.keys, lent.key, length);
+        memcpy(expected.keys + length, lent.keys + length, end - length);
+        hex(expected.keys + end - 16, EXPANSIONS[i].last);
+        check("aes_expand", i, answer, CONGURAHA_OK);
+    }
+    for (size_t i = 0; i < sizeof NO_KEY / sizeof *NO_KEY; i++) {
+        fill();
+        as_lent();
+        uint8_t answer = conguraha_aes_expand(NO_KEY[i] ? lent.key : NULL, NO_KEY[i], &lent.rounds, lent.keys);
+        expected.rounds = 0;
+        memset(expected.keys, 0, sizeof expected.keys);
+        check("aes_expand, no key", NO_KEY[i], answer, CONGURAHA_KEY_LENGTH);
+    }
+}
+
+static void blocks(void)
+{
+    for (size_t i = 0; i < 3; i++) {
+        fill();
+        size_t length = hex(lent.key, BLOCKS[i].key);
+        hex(lent.block, PLAIN);
+        as_lent();
+        uint8_t answer = conguraha_aes_encrypt(lent.key, length, lent.block, lent.reg);
+        hex(expected.reg, BLOCKS[i].cipher);
+        check("aes_encrypt", i, answer, CONGURAHA_OK);
+        answer = conguraha_aes_decrypt(lent.key, length, lent.reg, lent.out);
+        hex(expected.out, PLAIN);
+        check("aes_decrypt", i, answer, CONGURAHA_OK);
+    }
+    for (size_t i = 0; i < sizeof NO_KEY / sizeof *NO_KEY; i++) {
+        const uint8_t *key = NO_KEY[i] ? lent.key : NULL;
+        fill();
+        as_lent();
+        uint8_t answer = conguraha_aes_encrypt(key, NO_KEY[i], lent.block, lent.reg);
+        memset(expected.reg, 0, 16);
+        check("aes_encrypt, no key", NO_KEY[i], answer, CONGURAHA_KEY_LENGTH);
+        answer = conguraha_aes_decrypt(key, NO_KEY[i], lent.block, lent.out);
+        memset(expected.out, 0, 16);
+        check("aes_decrypt, no key", NO_KEY[i], answer, CONGURAHA_KEY_LENGTH);
+    }
+}
+
+static void chains(void)
+{
+    for (size_t i = 0; i < 3; i++) {
+        fill();
+        size_t length = hex(lent.key, BLOCKS[i].key);
+        hex(lent.block, PLAIN);
+        as_lent();
+        check("aes_chain, of 0", i, conguraha_aes_chain(lent.key, length, false, lent.block, 0), CONGURAHA_OK);
+        uint8_t answer = conguraha_aes_chain(lent.key, length, false, lent.block, 1);
+        hex(expected.block, BLOCKS[i].cipher);
+        check("aes_chain, of 1", i, answer, CONGURAHA_OK);
+        answer = conguraha_aes_chain(lent.key, length, false, lent.block, 99);
+        memcpy(expected.block, lent.block, 16);
+        check("aes_chain, of 99", i, answer, CONGURAHA_OK);
+        answer = conguraha_aes_chain(lent.key, length, true, lent.block, 100);
+        hex(expected.block, PLAIN);
+        check("aes_chain, back", i, answer, CONGURAHA_OK);
+        check("aes_chain, no key", 0, conguraha_aes_chain(NULL, 0, false, lent.block, 0), CONGURAHA_KEY_LENGTH);
+        answer = conguraha_aes_chain(NULL, 0, true, lent.block, 2);
+        memset(expected.block, 0, 16);
+        check("aes_chain, no key", 2, answer, CONGURAHA_KEY_LENGTH);
+    }
+}
+
+/* ---- sessions */
+
+/* SP 800-38A, appendix F: two blocks under the first key above, and the register behind them. */
+static const char *const TEXT = "6bc1bee22e409f96e93d7e117393172aae2d8a571e03ac9c9eb76fac45af8e51";
+static const struct {
+    enum conguraha_mode mode;
+    const char *iv, *cipher, *reg;
+} TEXTS[] = {
+    {CONGURAHA_ECB, "", "3ad77bb40d7a3660a89ecaf32466ef97f5d3d58503b9699de785895a96fdbaaf", "00000000000000000000000000000000"},
+    {CONGURAHA_CBC, "000102030405060708090a0b0c0d0e0f", "7649abac8119b246cee98e9b12e9197d5086cb9b507219ee95db113a917678b2",
+     "5086cb9b507219ee95db113a917678b2"},
+    {CONGURAHA_CFB, "000102030405060708090a0b0c0d0e0f", "3b3fd92eb72dad20333449f8e83cfb4ac8a64537a0b3a93fcde3cdad9f1ce58b",
+     "c8a64537a0b3a93fcde3cdad9f1ce58b"},
+    {CONGURAHA_OFB, "000102030405060708090a0b0c0d0e0f", "3b3fd92eb72dad20333449f8e83cfb4a7789508d16918f03f53c52dac54ed825",
+     "d9a4dada0892239f6b8b3d7680e15674"},
+    {CONGURAHA_CTR, "f0f1f2f3f4f5f6f7f8f9fafbfcfdfeff", "874d6191b620e3261bef6864990db6ce9806f66b7970fdff8617187bb9fffdff",
+     "f0f1f2f3f4f5f6f7f8f9fafbfcfdff01"},
+};
+static const size_t NO_MODE[] = {5, 255, 256, 258, 65538, 4294967298u, SIZE_MAX};
+
+/* The call with the fields apart; all that it writes is lent. */
+static uint8_t open_fields(size_t mode, bool decrypting, size_t n, size_t key_length, size_t iv_length)
+{
+    return conguraha_open(mode, decrypting, n, key_length ? lent.key : NULL, key_length, iv_length ? lent.iv : NULL, iv_length,
+                          &lent.mode, &lent.decrypting, &lent.n, &lent.rounds, lent.keys, lent.reg, &lent.units, &lent.closed);
+}
+
+static uint8_t feed_fields(size_t input_length, size_t bits, size_t out_length, size_t place)
+{
+    return conguraha_feed(lent.mode, lent.decrypting, lent.n, lent.rounds, lent.keys, lent.reg, &lent.units, &lent.closed,
+                          input_length ? lent.input : NULL, input_length, bits, out_length ? lent.out : NULL, out_length, place);
+}
+
+/* Lends the first key and the IV of the mode of that number, and opens. The round keys are those that aes_expand gives. */
+static void opened(size_t mode, bool decrypting, size_t n)
+{
+    fill();
+    lent.decrypting = !decrypting;
+    lent.closed = true;
+    hex(lent.key, EXPANSIONS[0].key);
+    size_t iv_length = hex(lent.iv, TEXTS[mode].iv);
+    as_lent();
+    uint8_t answer = open_fields(TEXTS[mode].mode, decrypting, n, 16, iv_length);
+    expected.mode = mode;
+    expected.decrypting = decrypting;
+    expected.n = n;
+    conguraha_aes_expand(expected.key, 16, &expected.rounds, expected.keys);
+    memset(expected.reg, 0, 16);
+    hex(expected.reg, TEXTS[mode].iv);
+    expected.units = 0;
+    expected.closed = false;
+    check("open", mode, answer, CONGURAHA_OK);
+}
+
+static void texts(void)
+{
+    for (size_t mode = 0; mode < 5; mode++)
+        for (int decrypting = 0; decrypting < 2; decrypting++) {
+            opened(mode, decrypting, 128);
+            hex(lent.input, decrypting ? TEXTS[mode].cipher : TEXT);
+            memcpy(expected.input, lent.input, 32);
+            uint8_t answer = feed_fields(32, 256, 37, 5);
+            hex(expected.out + 5, decrypting ? TEXT : TEXTS[mode].cipher);
+            hex(expected.reg, TEXTS[mode].reg);
+            expected.units = 2;
+            check("feed", mode, answer, CONGURAHA_OK);
+            check("feed, of nothing", mode, feed_fields(0, 0, 0, 0), CONGURAHA_OK);
+            check("feed, at the end", mode, feed_fields(1, 0, 37, 37), CONGURAHA_OK);
+        }
+}
+
+static void refused_opening(size_t mode, size_t n, size_t key_length, size_t iv_length, unsigned wanted)
+{
+    fill();
+    lent.decrypting = true;
+    as_lent();
+    uint8_t answer = open_fields(mode, true, n, key_length, iv_length);
+    expected.mode = expected.n = expected.rounds = 0;
+    expected.decrypting = false;
+    memset(expected.keys, 0, sizeof expected.keys);
+    memset(expected.reg, 0, sizeof expected.reg);
+    expected.units = 0;
+    expected.closed = true;
+    check("open, refused", mode, answer, wanted);
+    check("feed of a refused session", mode, feed_fields(16, 128, 16, 0), CONGURAHA_NOT_OPENED);
+}
+
+static void refused_openings(void)
+{
+    for (size_t i = 0; i < sizeof NO_KEY / sizeof *NO_KEY; i++)
+        refused_opening(i % 5, 0, NO_KEY[i], 17, CONGURAHA_KEY_LENGTH);
+    for (size_t mode = 1; mode < 5; mode++) {
+        refused_opening(mode, 0, 16, 0, CONGURAHA_IV_LENGTH);
+        refused_opening(mode, 0, 24, 15, CONGURAHA_IV_LENGTH);
+        refused_opening(mode, 0, 32, 17, CONGURAHA_IV_LENGTH);
+        refused_opening(mode, 0, 16, 16, CONGURAHA_UNIT_LENGTH);
+        refused_opening(mode, 129, 16, 16, CONGURAHA_UNIT_LENGTH);
+        refused_opening(mode, 4294967296u + 128, 16, 16, CONGURAHA_UNIT_LENGTH);
+        refused_opening(mode, SIZE_MAX, 16, 16, CONGURAHA_UNIT_LENGTH);
+    }
+    refused_opening(CONGURAHA_ECB, 0, 16, 16, CONGURAHA_IV_LENGTH);
+    refused_opening(CONGURAHA_ECB, 8, 16, 0, CONGURAHA_UNIT_LENGTH);
+    for (size_t i = 0; i < sizeof NO_MODE / sizeof *NO_MODE; i++) {
+        refused_opening(NO_MODE[i], 128, 16, 16, CONGURAHA_NO_MODE);
+        refused_opening(NO_MODE[i], 0, 0, 1, CONGURAHA_NO_MODE);
+    }
+}
+
+/* Nothing that is lent changes. */
+static void refused_feed(size_t input_length, size_t bits, size_t out_length, size_t place, unsigned wanted)
+{
+    as_lent();
+    check("feed, refused", bits, feed_fields(input_length, bits, out_length, place), wanted);
+}
+
+static void refused_feeds(void)
+{
+    const size_t most = CONGURAHA_MAX_BITS / 8;
+    opened(CONGURAHA_CFB, false, 8);
+    refused_feed(2, 17, 8, 0, CONGURAHA_BITS);
+    refused_feed(0, 1, 8, 0, CONGURAHA_BITS);
+    refused_feed(most + 1, CONGURAHA_MAX_BITS + 8, most + 16, 0, CONGURAHA_BITS);
+    refused_feed(2, 4294967296u, 8, 0, CONGURAHA_BITS);
+    refused_feed(2, SIZE_MAX, 8, 0, CONGURAHA_BITS);
+    refused_feed(2, 15, 0, 9, CONGURAHA_PART_UNIT);
+    refused_feed(2, 16, 1, 0, CONGURAHA_ROOM);
+    refused_feed(2, 16, 8, 7, CONGURAHA_ROOM);
+    refused_feed(2, 0, 8, 9, CONGURAHA_ROOM);
+    refused_feed(2, 16, 8, 4294967296u, CONGURAHA_ROOM);
+    refused_feed(2, 16, 8, SIZE_MAX, CONGURAHA_ROOM);
+    lent.units = CONGURAHA_MAX_UNITS - 1;
+    refused_feed(2, 16, 8, 0, CONGURAHA_UNIT_LIMIT);
+    lent.closed = true;
+    refused_feed(2, 15, 8, 9, CONGURAHA_CLOSED);
+    refused_feed(0, 0, 0, 0, CONGURAHA_CLOSED);
+    lent.n = 129;
+    refused_feed(2, 16, 8, 0, CONGURAHA_NOT_OPENED);
+    lent.n = 8;
+    lent.rounds = 11;
+    refused_feed(2, 16, 8, 0, CONGURAHA_NOT_OPENED);
+    for (size_t i = 0; i < sizeof NO_MODE / sizeof *NO_MODE; i++) {
+        lent.mode = NO_MODE[i];
+        refused_feed(2, 16, 8, 0, CONGURAHA_NO_MODE);
+    }
+}
+
+/* The largest feed, the last unit of a session, and a feed that closes. */
+static void edges(void)
+{
+    const size_t most = CONGURAHA_MAX_BITS / 8;
+    opened(CONGURAHA_ECB, false, 128);
+    memset(lent.input, 0, most);
+    as_lent();
+    uint8_t answer = feed_fields(most, CONGURAHA_MAX_BITS, most, 0);
+    for (size_t at = 0; at < most; at += 16)
+        hex(expected.out + at, "7df76b0c1ab899b33e42f047b91b546f");
+    expected.units = CONGURAHA_MAX_BITS / 128;
+    check("feed, the largest", CONGURAHA_MAX_BITS, answer, CONGURAHA_OK);
+
+    lent.units = expected.units = CONGURAHA_MAX_UNITS - 1;
+    answer = feed_fields(16, 128, 16, 0);
+    expected.units = CONGURAHA_MAX_UNITS;
+    check("feed, the last unit", 128, answer, CONGURAHA_OK);
+    check("feed, no unit more", 128, feed_fields(16, 128, 16, 0), CONGURAHA_UNIT_LIMIT);
+
+    opened(CONGURAHA_CTR, true, 128);
+    hex(lent.input, TEXTS[CONGURAHA_CTR].cipher);
+    memcpy(expected.input, lent.input, 32);
+    answer = feed_fields(1, 5, 1, 0);
+    expected.out[0] = 0x6b & 0xf8;
+    hex(expected.reg, "f0f1f2f3f4f5f6f7f8f9fafbfcfdff00");
+    expected.units = 1;
+    expected.closed = true;
+    check("feed, of a part of a block", 5, answer, CONGURAHA_OK);
+    check("feed, closed", 0, feed_fields(0, 0, 0, 0), CONGURAHA_CLOSED);
+}
+
+/* The same session in one piece, and its copy. */
+static void pieces(void)
+{
+    struct conguraha_session copy;
+    for (size_t mode = 0; mode < 5; mode++) {
+        opened(mode, false, 128);
+        hex(lent.input, TEXT);
+        as_lent();
+        uint8_t answer = conguraha_session_open(&lent.session, mode, false, 128, lent.key, 16, lent.iv, strlen(TEXTS[mode].iv) / 2);
+        memset(&expected.session, 0, sizeof expected.session);
+        expected.session.mode = mode;
+        expected.session.n = 128;
+        expected.session.rounds = 10;
+        memcpy(expected.session.keys, lent.keys, sizeof lent.keys);
+        memcpy(expected.session.reg, lent.reg, sizeof lent.reg);
+        check("session_open", mode, answer, CONGURAHA_OK);
+        copy = lent.session;
+        answer = conguraha_session_feed(&lent.session, lent.input, 32, 256, lent.out, 32, 0);
+        hex(expected.out, TEXTS[mode].cipher);
+        hex(expected.session.reg, TEXTS[mode].reg);
+        expected.session.units = 2;
+        check("session_feed", mode, answer, CONGURAHA_OK);
+        answer = conguraha_session_feed(&copy, lent.input, 32, 256, lent.out, 64, 32);
+        hex(expected.out + 32, TEXTS[mode].cipher);
+        check("session_feed, a copy", mode, answer, CONGURAHA_OK);
+    }
+    fill();
+    as_lent();
+    uint8_t answer = conguraha_session_open(&lent.session, 258, true, 8, lent.key, 16, lent.iv, 16);
+    memset(&expected.session, 0, sizeof expected.session);
+    expected.session.closed = true;
+    check("session_open, refused", 258, answer, CONGURAHA_NO_MODE);
+    memset(&lent.session, 0, sizeof lent.session);
+    as_lent();
+    answer = conguraha_session_feed(&lent.session, lent.input, 16, 128, lent.out, 16, 0);
+    check("session_feed, of zero bytes", 0, answer, CONGURAHA_NOT_OPENED);
+}
+
+int main(void)
+{
+    expansions();
+    blocks();
+    chains();
+    texts();
+    refused_openings();
+    refused_feeds();
+    edges();
+    pieces();
+    if (failures == 0)
+        printf("%d calls answered and wrote what they should\n", checks);
+    return failures != 0;
+}
