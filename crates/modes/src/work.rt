@@ -74,10 +74,10 @@ fn work_units<'a>(
 {
     let mode = session.mode;
     let direction = session.direction;
-    let count = questions::units_in(session.n, bits);
+    let units = questions::units_in(session.n, bits);
     let mut moved = session;
     let mut t: usize = 0;
-    while t < count {
+    while t < units {
         let before = moved.register;
         let next = work_unit(
             mode,

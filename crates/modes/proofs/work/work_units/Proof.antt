@@ -14,10 +14,10 @@ use Rattle.modes.proofs.work.work_units.Statement.{statement}
 use Rattle.modes.proofs.work.work_units.Tie as tie
 
 abbrev Inv-loop : tie.InvT-loop
-Inv-loop session dec table last words input bits out₀ mode direction count moved₀ t₀ out moved t = Through mode direction (session .n) (session .rounds) (session .keys) (session .register) input bits out₀ t (moved .register) out × (t ≤ count)
+Inv-loop session dec table last words input bits out₀ mode direction units moved₀ t₀ out moved t = Through mode direction (session .n) (session .rounds) (session .keys) (session .register) input bits out₀ t (moved .register) out × (t ≤ units)
 
 abbrev μ-loop : tie.MeasureT-loop
-μ-loop session dec table last words input bits out₀ mode direction count moved₀ t₀ out moved t = count - t
+μ-loop session dec table last words input bits out₀ mode direction units moved₀ t₀ out moved t = units - t
 
 register-is : (s : tie.Start Inv-loop μ-loop) → Block (s .args .session .register)
 register-is s = search arrays
