@@ -5,12 +5,12 @@ use mathlib.Core.List.{List}
 use mathlib.Core.Logic.{inl, inr, _↔_}
 use Prim.Native.Nat.{ℕ, _+_, _/_}
 use lib.ListN.{length, replicate}
+use Rattle.cipher.specs.Cipher.{roundsOk}
+use Rattle.cipher.proofs.TestLaws.{passed}
+use Rattle.cipher.proofs.CipherLaws.{enc-refused, dec-refused}
 use Rattle.aes.specs.KeyExpansion.{roundsFor, roundKeys}
-use Rattle.aes.specs.Cipher.{roundsOk}
 use Rattle.aes.specs.Calls.{keyOk, keyNumber, keyRounds, keyBytes, encrypted, decrypted, Expanded}
 use Rattle.aes.specs.Promises.{AcceptedExpands, KeyLength, CallsAnswer}
-use Rattle.aes.proofs.TestLaws.{passed}
-use Rattle.aes.proofs.CipherLaws.{enc-refused, dec-refused}
 use Rattle.aes.proofs.KeyLaws.{keyBytes-length, keyBytes-bytes}
 
 module _ (key : List ℕ) where

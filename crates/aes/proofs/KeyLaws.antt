@@ -9,9 +9,9 @@ use native.Mathlib.Omega.{arith}
 use lib.ListN.{length, take, drop, replicate, length-append}
 use Rattle.bits.specs.Blocks.{Bytes}
 use Rattle.bits.proofs.Texts.{append-bytes}
+use Rattle.cipher.proofs.TestLaws.{passed}
 use Rattle.aes.specs.KeyExpansion.{nextWord, schedule, roundsFor, roundKeys}
 use Rattle.aes.specs.Calls.{keyOk, keyBytes}
-use Rattle.aes.proofs.TestLaws.{passed}
 use Rattle.aes.proofs.Filled.{filled, filled-length, filled-bytes, filled-more, zeros-bytes}
 use Rattle.aes.proofs.WordLaws.{nextWord-length, nextWord-bytes, nextWord-front}
 

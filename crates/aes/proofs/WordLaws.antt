@@ -16,11 +16,11 @@ use Rattle.bits.proofs.Lists.{spread, listed}
 use Rattle.bits.proofs.Texts.{bytes-nil, cons-bytes}
 use Rattle.bits.proofs.Xors.{length-xorBytes, xorBytes-bytes}
 use Rattle.field.specs.Boxes.{subByte, Tabulates}
-use Rattle.field.specs.Rows.{four}
+use Rattle.field.specs.Rows.{four, wordAt}
 use Rattle.field.proofs.Fours.{four-ext, four-bytes}
 use Rattle.field.proofs.FieldLaws.{double-byte}
 use Rattle.field.proofs.BoxLaws.{subByte-byte}
-use Rattle.aes.specs.KeyExpansion.{wordAt, subWord, rotWord, power, rcon, temp, nextWord}
+use Rattle.aes.specs.KeyExpansion.{subWord, rotWord, power, rcon, temp, nextWord}
 
 pub xor-four : (a b : List ℕ) → length a ≡ 4 → length b ≡ 4 → four (λ i. xor (getD a i 0) (getD b i 0)) ≡ xorBytes a b
 unfolding four xorBytes

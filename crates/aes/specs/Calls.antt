@@ -1,13 +1,12 @@
--- What the public calls answer (document 01, "The block cipher" and question 1), and the theorem about Enc and Dec.
-use Prim.Native.Nat.{ℕ, _<_, _/_}
+-- What the public calls answer (document 01, "The block cipher" and question 1).
+use Prim.Native.Nat.{ℕ, _/_}
 use mathlib.Core.Path.{_≡_}
-use mathlib.Core.Bool.{Bool, true, false, cond}
+use mathlib.Core.Bool.{Bool, true, cond}
 use mathlib.Core.List.{List}
 use lib.Dec.{eqb}
 use lib.ListN.{length, replicate}
-use Rattle.bits.specs.Blocks.{Bytes, BlockCipher}
+use Rattle.cipher.specs.Cipher.{Enc, Dec}
 use Rattle.aes.specs.KeyExpansion.{roundsFor, roundKeys}
-use Rattle.aes.specs.Cipher.{roundsOk, Enc, Dec}
 
 -- Question 1: is the key 16, 24 or 32 bytes long?
 unfoldable pub keyOk : List ℕ → Bool
@@ -40,7 +39,3 @@ pub record Expanded (key : List ℕ) (number rounds : ℕ) (keys : List ℕ) : T
 pub record BlockAnswer (key : List ℕ) (result : List ℕ) (number : ℕ) (block : List ℕ) : Type 0 where
   pub answer : number ≡ keyNumber key
   pub answer-block : block ≡ result
-
--- Enc and Dec undo each other under 10, 12 or 14 rounds and any round keys.
-unfoldable pub UndoEachOther : Type 0
-UndoEachOther = (nr : ℕ) (w : List ℕ) → roundsOk nr ≡ true → Bytes w → BlockCipher (Enc nr w) (Dec nr w)

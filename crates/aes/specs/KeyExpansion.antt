@@ -7,10 +7,7 @@ use lib.ListN.{length, getD, replicate}
 use Rattle.bits.specs.Xor.{xorBytes}
 use Rattle.field.specs.Field.{double}
 use Rattle.field.specs.Boxes.{subByte}
-use Rattle.field.specs.Rows.{four}
-
-unfoldable pub wordAt : List ℕ → ℕ → List ℕ
-wordAt w i = four (λ j. getD w (4 * i + j) 0)
+use Rattle.field.specs.Rows.{four, wordAt}
 
 unfoldable pub subWord : List ℕ → List ℕ
 subWord t = four (λ j. subByte (getD t j 0))

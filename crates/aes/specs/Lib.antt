@@ -1,7 +1,4 @@
--- FIPS 197 in its own steps and names.
-pub mod State
-pub mod Steps
+-- FIPS 197's key expansion in its own steps and names, and the public calls under a key.
 pub mod KeyExpansion
-pub mod Cipher
 pub mod Calls
 pub mod Promises

@@ -6,7 +6,7 @@ use mathlib.Core.List.{List}
 use mathlib.Core.Logic.{_⊎_, _↔_}
 use lib.ListN.{length, replicate}
 use Rattle.bits.specs.Blocks.{Bytes}
-use Rattle.aes.specs.Cipher.{roundsOk}
+use Rattle.cipher.specs.Cipher.{roundsOk}
 use Rattle.aes.specs.Calls.{keyOk, keyNumber, keyRounds, keyBytes, encrypted, decrypted, Expanded, BlockAnswer}
 
 -- An accepted key gives 10, 12 or 14 rounds and 240 bytes of round keys. The modes rely on it.

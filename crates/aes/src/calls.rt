@@ -1,9 +1,8 @@
 // The public calls: expand a key, and encrypt or decrypt one block under a key. A key that is not 16, 24 or 32 bytes long is
 // refused with number 1 and zeros.
-use crate::block;
 use crate::expansion;
 ghost use mathlib.Core.Path.{_≡_};
-ghost use Rattle.aes.specs.Cipher.{Enc, Dec};
+ghost use Rattle.cipher.specs.Cipher.{Enc, Dec};
 ghost use Rattle.aes.specs.Calls.{keyOk, encrypted, decrypted, Expanded, BlockAnswer};
 
 pub struct Schedule {
@@ -48,14 +47,14 @@ fn encrypt_under(schedule: Schedule, block: [u8; 16]) -> [u8; 16]
     ensures { λ r. ⌜ r ≡ Enc (schedule .rounds) (schedule .keys) block ⌝ }
 {
     let keys = schedule.keys;
-    block::encrypt_block(schedule.rounds, &keys, block)
+    cipher::encrypt_block(schedule.rounds, &keys, block)
 }
 
 fn decrypt_under(schedule: Schedule, block: [u8; 16]) -> [u8; 16]
     ensures { λ r. ⌜ r ≡ Dec (schedule .rounds) (schedule .keys) block ⌝ }
 {
     let keys = schedule.keys;
-    block::decrypt_block(schedule.rounds, &keys, block)
+    cipher::decrypt_block(schedule.rounds, &keys, block)
 }
 
 pub fn encrypt(key: &[u8], block: [u8; 16]) -> Answer

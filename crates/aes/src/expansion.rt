@@ -5,7 +5,8 @@ ghost use mathlib.Core.Bool.{true};
 ghost use mathlib.Core.List.{_++_};
 ghost use lib.ListN.{length, take, drop, replicate};
 ghost use Rattle.bits.specs.Xor.{xorBytes};
-ghost use Rattle.aes.specs.KeyExpansion.{wordAt, power, temp, nextWord, roundKeys};
+ghost use Rattle.field.specs.Rows.{wordAt};
+ghost use Rattle.aes.specs.KeyExpansion.{power, temp, nextWord, roundKeys};
 ghost use Rattle.aes.specs.Calls.{keyOk};
 
 // x^j in the field.

@@ -2,7 +2,7 @@
 use Prim.Native.Nat.{ℕ, zero, suc}
 use mathlib.Core.Bool.{Bool, cond}
 use mathlib.Core.List.{List}
-use Rattle.aes.specs.Cipher.{Enc, Dec}
+use Rattle.cipher.specs.Cipher.{Enc, Dec}
 use Rattle.aes.specs.Calls.{keyRounds, keyBytes}
 
 -- Dec where `decrypting` holds, else Enc, under the rounds nr and the round keys w.

@@ -7,9 +7,9 @@ fn block_function(decrypting: bool, rounds: usize, keys: &[u8; 240], block: [u8;
     ensures { λ r. ⌜ r ≡ blockFunction decrypting rounds (now (keys .entry)) block ⌝ }
 {
     if decrypting {
-        aes::decrypt_block(rounds, keys, block)
+        cipher::decrypt_block(rounds, keys, block)
     } else {
-        aes::encrypt_block(rounds, keys, block)
+        cipher::encrypt_block(rounds, keys, block)
     }
 }
 

@@ -61,19 +61,9 @@ fn open_by_number(mode: usize, decrypting: bool, n: usize, key: &[u8], iv: &[u8]
     ensures { λ r. ⌜ OpenedByNumber mode decrypting n (now (key .entry)) (now (iv .entry)) r ⌝ }
 {
     if mode > 4 {
-        let session = Session {
-            mode: Mode::Ecb,
-            direction: Direction::Encrypt,
-            n: 0,
-            rounds: 0,
-            keys: [0; 240],
-            register: [0; 16],
-            units: 0,
-            closed: true,
-        };
         return Opened {
             number: 12,
-            session,
+            session: Session::refused(),
         };
     }
     Session::open(mode_of(mode), direction_of(decrypting), n, key, iv)

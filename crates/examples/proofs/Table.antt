@@ -7,14 +7,14 @@ use Rattle.bits.specs.Texts.{bit, byteBits, bits, digit, byteOf, packTo, bytesF
 use Rattle.bits.specs.Counter.{number, numberBytes, increment}
 use Rattle.field.specs.Field.{double, shiftAdd, product, square, squares, inverse}
 use Rattle.field.specs.Boxes.{low, fromBits, affine, unaffine, subByte, invSubByte}
-use Rattle.field.specs.Rows.{four}
-use Rattle.aes.specs.State.{at, state, fromBlock, column, toBlock}
-use Rattle.aes.specs.Steps.{bytewise, subBytes, invSubBytes, shiftRows, invShiftRows, circulant, dot, mixWith, mixColumns, invMixColumns, addRoundKey}
-use Rattle.aes.specs.KeyExpansion.{wordAt, subWord, rotWord, power, rcon, temp, nextWord, schedule, roundsFor, roundKeys}
-use Rattle.aes.specs.Cipher.{rounds, cipher as aesCipher, invRounds, invCipher, roundsOk, Enc, Dec}
+use Rattle.field.specs.Rows.{four, wordAt}
+use Rattle.cipher.specs.State.{at, state, fromBlock, column, toBlock}
+use Rattle.cipher.specs.Steps.{bytewise, subBytes, invSubBytes, shiftRows, invShiftRows, circulant, dot, mixWith, mixColumns, invMixColumns, addRoundKey}
+use Rattle.cipher.specs.Cipher.{rounds, cipher as aesCipher, invRounds, invCipher, roundsOk, Enc, Dec}
+use Rattle.aes.specs.KeyExpansion.{subWord, rotWord, power, rcon, temp, nextWord, schedule, roundsFor, roundKeys}
 use Rattle.aes.specs.Calls.{keyOk, keyRounds, keyBytes}
 use Rattle.rules.specs.Rules.{msb, mask, next, cipher, plain, outOf, nextOf, unitAt, unitsIn, joined, registerAt, outAt, worked}
-use Rattle.modes.specs.Questions.{ask, bitsOk}
+use Rattle.questions.specs.Questions.{ask, bitsOk}
 use Rattle.modes.specs.Sessions.{fedText}
 use Rattle.grammar.specs.Grammar.{same}
 use Rattle.padding.specs.Padding.{zerosFor, padded, wholeBlocks, holdsOne, unpadQuestions, unpadNumber}

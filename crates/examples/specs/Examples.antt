@@ -8,7 +8,7 @@ use Rattle.bits.specs.Texts.{bits, pack, digit}
 use Rattle.bits.specs.Counter.{increment}
 use Rattle.field.specs.Field.{product}
 use Rattle.field.specs.Boxes.{subByte}
-use Rattle.aes.specs.Cipher.{Enc, Dec}
+use Rattle.cipher.specs.Cipher.{Enc, Dec}
 use Rattle.aes.specs.Calls.{keyRounds, keyBytes}
 use Rattle.rules.specs.declared.Mode.the-variants.{Cbc, Cfb}
 use Rattle.rules.specs.declared.Direction.the-variants.{Encrypt, Decrypt}

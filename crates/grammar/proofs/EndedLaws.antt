@@ -11,7 +11,7 @@ use lib.Dec.{ltb, eqb}
 use lib.ListN.{length, take, drop, length-append}
 use lib.Seq.{length-take-le, take-append-le, drop-append-le}
 use Rattle.grammar.specs.Texts.{given, _>>=_, upTo, Cut, cut, hexBytes}
-use Rattle.grammar.specs.Grammar.{First, firstOf, HexLine, digitsFit, hexLine, Request, behindFirst, request}
+use Rattle.grammar.specs.Grammar.{First, firstOf, HexLine, digitsFit, hexLine, behindFirst, request}
 use Rattle.grammar.specs.Reading.{isSome, LineForm, firstForm, digitsForm, textLines, byCut, endsIn, readingEnds}
 use Rattle.grammar.proofs.LineLaws.{cut-some, fit-size}
 use Rattle.grammar.proofs.SizeLaws.{never, given-true, first-size}

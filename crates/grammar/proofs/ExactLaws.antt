@@ -10,7 +10,7 @@ use borrow.Author.Tests.{lt-ltb, ne-eqb}
 use lib.Dec.{ltb, eqb}
 use lib.ListN.{length}
 use Rattle.grammar.specs.Texts.{given, _>>=_, Cut, cut, hexBytes}
-use Rattle.grammar.specs.Grammar.{First, firstOf, HexLine, digitsFit, hexLine, Request, behindFirst, request}
+use Rattle.grammar.specs.Grammar.{First, firstOf, HexLine, digitsFit, hexLine, behindFirst, request}
 use Rattle.grammar.specs.Reading.{isSome, LineForm, firstForm, digitsForm, textLines, byCut, endsIn, readingEnds, openIn, EndsExactly}
 use Rattle.grammar.proofs.EndedLaws.{bind-bind}
 

@@ -1,8 +1,8 @@
 -- A line or a word that was found, and what a line of digits then is. Assumes nothing.
-use mathlib.Core.Path.{_≡_, refl, sym, ap, subst, _∙_}
-use mathlib.Core.Bool.{Bool, _&&_}
+use mathlib.Core.Path.{_≡_, sym, ap, subst, _∙_}
+use mathlib.Core.Bool.{_&&_}
 use mathlib.Core.List.{List}
-use mathlib.Core.Option.{Option, none, some}
+use mathlib.Core.Option.{none, some}
 use Prim.Native.Nat.{ℕ, _+_, _-_, _%_, _≤_, _<_}
 use native.Mathlib.Nat.{le-of-lt, le-of-eq, add-assoc}
 use native.Mathlib.Omega.{arith}
@@ -11,9 +11,9 @@ use borrow.Author.Tests.{leb-true, lt-ltb, le-ltb, eq-eqb, ne-eqb}
 use lib.Dec.{leb, eqb}
 use lib.ListN.{length, take, drop, length-drop}
 use lib.Seq.{length-take-le, take-all, drop-drop}
-use Rattle.grammar.specs.Texts.{given, upTo, Cut, cut, all, isHex}
+use Rattle.grammar.specs.Texts.{given, upTo, cut, all, isHex}
 use Rattle.grammar.specs.declared.form.Digits.{Digits}
-use Rattle.grammar.specs.Grammar.{HexLine, digitsFit, hexLine}
+use Rattle.grammar.specs.Grammar.{digitsFit, hexLine}
 use Rattle.grammar.specs.Answers.{bytesAt, lineIn, LineFits, LineRead}
 use Rattle.grammar.proofs.RangeLaws.{and-first}
 

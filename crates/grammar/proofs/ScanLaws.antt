@@ -1,6 +1,6 @@
 -- A text read byte by byte from its front: what a search, a test of each byte and a count of decimal digits say of the rest from
 -- byte i on, one byte further and at the end. Assumes nothing.
-use mathlib.Core.Path.{_≡_, refl, sym, _∙_}
+use mathlib.Core.Path.{_≡_, sym, _∙_}
 use mathlib.Core.Bool.{Bool, true, false}
 use mathlib.Core.List.{List}
 use Prim.Native.Nat.{ℕ, suc, _+_, _*_, _^_, _≤_, _<_}

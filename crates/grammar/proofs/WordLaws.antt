@@ -1,13 +1,13 @@
 -- The words of the first line: a word of a known length against a name, letter by letter, and what a decimal digit counts.
 -- Assumes nothing.
-use mathlib.Core.Path.{_≡_, refl, sym, ap, _∙_}
+use mathlib.Core.Path.{_≡_, refl, ap}
 use mathlib.Core.Bool.{Bool, true, false, _&&_}
 use mathlib.Core.List.{List, [], _∷_}
 use Prim.Native.Nat.{ℕ, suc, _-_}
 use lib.Dec.{eqb}
 use lib.ListN.{length, getD}
 use Rattle.bits.proofs.Lists.{listed}
-use Rattle.grammar.specs.Texts.{between, isDecimal, value}
+use Rattle.grammar.specs.Texts.{between, value}
 use Rattle.grammar.specs.Grammar.{same}
 
 and-true : (a : Bool) → (a && true) ≡ a

@@ -1,5 +1,5 @@
 -- What the answers of the line parser stand for: each is an enum, and `Bad` is the text that is not of the form.
-use Prim.Native.Nat.{ℕ, _+_, _≤_, _<_}
+use Prim.Native.Nat.{ℕ, _+_, _≤_}
 use mathlib.Core.Path.{_≡_}
 use mathlib.Core.List.{List}
 use mathlib.Core.Option.{Option, none, some}

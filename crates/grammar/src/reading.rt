@@ -4,7 +4,7 @@ use crate::header::first_line;
 use crate::hex::digits_fit;
 use crate::scan::up_to;
 ghost use mathlib.Core.Path.{_≡_};
-ghost use Rattle.grammar.specs.Reading.{LineForm, firstForm, lineForm, readingEnds};
+ghost use Rattle.grammar.specs.Reading.{firstForm, lineForm, readingEnds};
 
 // The most bytes of a line, counted from 0, without its line feed.
 fn most(line: usize) -> usize

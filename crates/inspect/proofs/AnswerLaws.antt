@@ -12,9 +12,9 @@ use Rattle.bits.specs.Xor.{xorBytes}
 use Rattle.bits.specs.Texts.{bits, bytesFor, pack, putBits}
 use Rattle.bits.specs.Blocks.{Block}
 use Rattle.bits.proofs.Texts.{bits-block, length-pack}
-use Rattle.aes.specs.Cipher.{Dec}
+use Rattle.cipher.specs.Cipher.{Dec}
 use Rattle.aes.specs.Calls.{keyRounds, keyBytes, decrypted}
-use Rattle.modes.specs.Questions.{roomOk}
+use Rattle.questions.specs.Questions.{roomOk}
 use Rattle.modes.specs.Sessions.{written}
 use Rattle.modes.proofs.AnswerLaws.{part-written}
 use Rattle.modes.proofs.WorkLaws.{part-all}

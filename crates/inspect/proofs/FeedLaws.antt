@@ -12,7 +12,7 @@ use Rattle.bits.specs.Xor.{xorBytes}
 use Rattle.bits.specs.Texts.{bits, pack}
 use Rattle.bits.specs.Blocks.{Bytes}
 use Rattle.bits.proofs.Texts.{length-bits, take-bits, drop-bits, take-bytes, drop-bytes, pack-bits}
-use Rattle.aes.specs.Cipher.{Enc, Dec}
+use Rattle.cipher.specs.Cipher.{Enc, Dec}
 use Rattle.aes.specs.Calls.{keyRounds, keyBytes, decrypted}
 use Rattle.rules.specs.declared.Mode.the-variants.{Cbc}
 use Rattle.rules.specs.declared.Direction.the-variants.{Decrypt}

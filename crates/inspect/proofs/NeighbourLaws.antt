@@ -10,7 +10,7 @@ use lib.Seq.{length-take-le, take-all, take-nil, drop-length}
 use Rattle.bits.specs.Texts.{bits, packTo}
 use Rattle.bits.specs.Blocks.{Bytes, Block}
 use Rattle.bits.proofs.Texts.{take-bits, take-bytes, drop-bytes, packTo-bits}
-use Rattle.modes.specs.Questions.{ask}
+use Rattle.questions.specs.Questions.{ask}
 use Rattle.modes.proofs.WorkLaws.{part-all}
 use Rattle.inspect.specs.Single.{blockAt, neighbourOf, neighbourQuestions, neighbourAnswer}
 

@@ -9,8 +9,8 @@ use lib.Dec.{eqb, ltb}
 use lib.ListN.{length}
 use Rattle.aes.specs.Calls.{keyOk}
 use Rattle.rules.specs.declared.Mode.the-variants.{Cbc}
-use Rattle.modes.specs.Questions.{ask, ivOk, roomOk}
-use Rattle.modes.proofs.QuestionLaws.{first-yes}
+use Rattle.questions.specs.Questions.{ask, ivOk, roomOk}
+use Rattle.questions.proofs.QuestionLaws.{first-yes}
 use Rattle.inspect.specs.Single.{blockOk, neighbourQuestions, singleQuestions, singleNumber}
 
 -- ---- the neighbour's questions

@@ -13,7 +13,7 @@ use Rattle.rules.specs.Rules.{unitAt}
 use Rattle.modes.specs.declared.session.Session.{Session}
 use Rattle.modes.specs.declared.session.Opened.{Opened}
 use Rattle.modes.specs.declared.session.Fed.{Fed}
-use Rattle.modes.specs.Questions.{ask}
+use Rattle.questions.specs.Questions.{ask}
 use Rattle.modes.specs.Sessions.{Arrays, OpenedBy, FedBy, sessionText}
 use Rattle.inspect.specs.Single.{blockAt, blockOk, neighbourQuestions, neighbourAnswer, plainBlock, SingleBy}
 use Rattle.inspect.specs.Alike.{Alike, alikeTo}

@@ -9,7 +9,7 @@ use Rattle.bits.specs.Xor.{xorBytes}
 use Rattle.bits.specs.Texts.{bits}
 use Rattle.aes.specs.Calls.{keyOk, decrypted}
 use Rattle.rules.specs.declared.Mode.the-variants.{Cbc}
-use Rattle.modes.specs.Questions.{Question, ask, ivOk, roomOk}
+use Rattle.questions.specs.Questions.{Question, ask, ivOk, roomOk}
 use Rattle.modes.specs.Sessions.{written}
 
 -- Block j of a text, counted from 0.

@@ -1,12 +1,11 @@
 // One block of a CBC ciphertext: its neighbour, and its plaintext.
 use modes::Session;
+use questions::BLOCK_BITS;
 ghost use mathlib.Core.Path.{_≡_};
 ghost use Rattle.bits.specs.Xor.{xorBytes};
-ghost use Rattle.aes.specs.Cipher.{Dec};
-ghost use Rattle.modes.specs.Questions.{ask};
+ghost use Rattle.cipher.specs.Cipher.{Dec};
+ghost use Rattle.questions.specs.Questions.{ask};
 ghost use Rattle.inspect.specs.Single.{blockAt, blockOk, neighbourOf, neighbourQuestions, neighbourAnswer, SingleBy};
-
-const BLOCK_BITS: usize = 8 * Session::BLOCK;
 
 // Question 11.
 fn block_ok(bytes: usize, j: usize) -> bool
@@ -61,7 +60,7 @@ fn plain_block<'a>(
     let start = j * Session::BLOCK;
     let block = bits::window(&text[start..], 0, BLOCK_BITS);
     let before = bits::window(neighbour(iv, text, j), 0, BLOCK_BITS);
-    bits::xor_block(aes::decrypt_block(rounds, keys, block), before)
+    bits::xor_block(cipher::decrypt_block(rounds, keys, block), before)
 }
 
 // Decrypts block j of the ciphertext `text` with its neighbour, and writes its 16 bytes from out[place] on.
@@ -83,7 +82,7 @@ pub fn decrypt_block<'a>(
     if number != 0 {
         return number;
     }
-    if !modes::room_ok(out.len(), place, Session::BLOCK) {
+    if !questions::room_ok(out.len(), place, Session::BLOCK) {
         return 8;
     }
     let keys = schedule.keys;

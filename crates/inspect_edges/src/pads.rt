@@ -23,7 +23,7 @@ fn unpad(name: &[u8], input: &[u8], bits: usize) {
     show::end();
 }
 
-fn lengths() {
+fn about_a_byte() {
     let input = b"\xfe\x5a\xa5\x0f\xf0\x33\xcc\x69\x96\x01\x80\x7e\xe7\x18\x81\xfe\xff";
     pad(b"pad 0 bits", input, 0, 3);
     pad(b"pad 0 bits of none", b"", 0, 3);
@@ -31,6 +31,10 @@ fn lengths() {
     pad(b"pad 7 bits", input, 7, 3);
     pad(b"pad 8 bits", input, 8, 3);
     pad(b"pad 9 bits", input, 9, 3);
+}
+
+fn about_a_block() {
+    let input = b"\xfe\x5a\xa5\x0f\xf0\x33\xcc\x69\x96\x01\x80\x7e\xe7\x18\x81\xfe\xff";
     pad(b"pad 127 bits", input, 127, 3);
     pad(b"pad 128 bits", input, 128, 3);
     pad(b"pad 129 bits", input, 129, 3);
@@ -119,7 +123,8 @@ fn largest_unpads() {
 }
 
 pub fn run() {
-    lengths();
+    about_a_byte();
+    about_a_block();
     places();
     more_bits_than_input();
     largest_pads();

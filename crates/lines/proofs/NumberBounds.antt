@@ -9,7 +9,7 @@ use borrow.Author.Tests.{ltb-true}
 use lib.Dec.{ltb}
 use Rattle.rules.specs.declared.Mode.{Mode}
 use Rattle.modes.specs.declared.session.Session.{Session}
-use Rattle.modes.specs.Questions.{Question, ask, openQuestions, feedQuestions}
+use Rattle.questions.specs.Questions.{Question, ask, openQuestions, feedQuestions}
 use Rattle.modes.specs.Sessions.{openNumber, feedNumber}
 use Rattle.grammar.proofs.RangeLaws.{and-first, and-second}
 

@@ -4,7 +4,6 @@ use libc::STDOUT_FILENO;
 use lines::MAX_INPUT;
 use lines::MAX_OUTPUT;
 ghost use Prim.Native.Nat.{_+_, _≤_};
-ghost use mathlib.Core.Path.{_≡_};
 ghost use lib.ListN.{length};
 ghost use Rattle.io.specs.Counts.{Counts};
 

@@ -1,14 +1,14 @@
 -- What open and feed give, from the answers to their questions. Assumes nothing.
-use Prim.Native.Nat.{ℕ, zero, suc, _+_, _-_, _%_, _≤_}
+use Prim.Native.Nat.{ℕ, suc, _+_, _-_, _%_, _≤_}
 use mathlib.Core.Path.{_≡_, refl, sym, ap, _∙_}
 use mathlib.Core.Bool.{Bool, true, false, cond, not}
 use mathlib.Core.List.{List, _++_, append-assoc, append-nil}
 use native.Mathlib.Nat.{suc-ne-zero}
 use native.Mathlib.Omega.{arith}
-use borrow.Author.Tests.{eq-eqb, ne-eqb}
+use borrow.Author.Tests.{ne-eqb}
 use lib.Dec.{eqb}
-use lib.ListN.{length, take, drop, length-append, length-drop, drop-of-length-le}
-use lib.Seq.{drop-drop, take-all}
+use lib.ListN.{length, take, drop, length-drop, drop-of-length-le}
+use lib.Seq.{drop-drop}
 use Rattle.bits.specs.Texts.{pack}
 use Rattle.aes.specs.Calls.{keyOk, keyNumber}
 use Rattle.rules.specs.declared.Mode.{Mode}
@@ -16,9 +16,7 @@ use Rattle.rules.specs.declared.Direction.{Direction}
 use Rattle.rules.specs.Lengths.{unitLengthOk}
 use Rattle.rules.specs.Rules.{unitsIn}
 use Rattle.modes.specs.declared.session.Session.{Session}
-use Rattle.modes.specs.declared.session.Opened.{Opened}
-use Rattle.modes.specs.declared.session.Fed.{Fed}
-use Rattle.modes.specs.Questions.{ask, ivOk, openQuestions}
+use Rattle.questions.specs.Questions.{ask, ivOk, openQuestions}
 use Rattle.modes.specs.Sessions.{openNumber, openedSession, refusedSession, OpenedBy, fedText, sessionText, sessionRegister, feedNumber, fedSession, written, FedBy}
 
 -- ---- open

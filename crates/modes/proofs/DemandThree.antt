@@ -1,7 +1,6 @@
 -- Demand 3 for two lists of decrypting feeds: `DemandThree`. Assumes nothing.
 use Prim.Native.Nat.{ℕ, zero, suc, _+_, _*_, _≤_, _<_}
 use mathlib.Core.Path.{_≡_, refl, sym, ap, _∙_}
-use mathlib.Core.Bool.{true}
 use mathlib.Core.List.{List, []}
 use native.Mathlib.Nat.{le-trans, le-of-mul-le-mul-right}
 use native.Mathlib.Omega.{arith}
@@ -21,7 +20,7 @@ use Rattle.modes.specs.Machine.{Opening, machineStart}
 use Rattle.modes.specs.Lists.{Call, Run, allFed, registersAfter, registers}
 use Rattle.modes.specs.Promises.{Followed, DemandThree}
 use Rattle.modes.proofs.OpeningLaws.{opened-session, opened-ready}
-use Rattle.modes.proofs.OpenedRuns.{OpenedRun, opened-run}
+use Rattle.modes.proofs.OpenedRuns.{opened-run}
 use Rattle.modes.proofs.SessionLaws.{Ready}
 use Rattle.modes.proofs.MachineLaws.{sessionOf}
 use Rattle.modes.proofs.AgreementLaws.{beside}

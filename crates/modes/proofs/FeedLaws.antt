@@ -16,7 +16,7 @@ use Rattle.modes.specs.declared.session.Session.{Session}
 use Rattle.modes.specs.declared.session.Fed.{Fed}
 use Rattle.modes.specs.Sessions.{Arrays, FedBy, fedText, fedSession, sessionText, feedNumber, written}
 use Rattle.modes.specs.Promises.{RefusedUnchanged, ExactlyTheNamed, AcceptedExact, NothingFed, ClosesAfterShort}
-use Rattle.modes.proofs.QuestionLaws.{FeedTaken, feed-taken}
+use Rattle.questions.proofs.QuestionLaws.{FeedTaken, feed-taken}
 use Rattle.modes.proofs.WrittenLaws.{written-before, written-behind, written-text, written-spare, written-size}
 use Rattle.modes.proofs.SessionLaws.{Ready, text-length, text-none, fed-none}
 

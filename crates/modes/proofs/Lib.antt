@@ -1,8 +1,5 @@
 -- Laws about the definitions of specs/, a file to a subject, and the proofs of the promises.
-pub mod TestLaws
-pub mod TurnLaws
 pub mod WorkLaws
-pub mod QuestionLaws
 pub mod AnswerLaws
 pub mod WrittenLaws
 pub mod SessionLaws

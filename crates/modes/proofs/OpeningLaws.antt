@@ -1,6 +1,6 @@
 -- An accepted opening returns a session that may be fed. Assumes nothing.
 use Prim.Native.Nat.{ℕ, zero, suc}
-use mathlib.Core.Path.{_≡_, refl, sym, ap, _∙_}
+use mathlib.Core.Path.{_≡_, refl, sym, _∙_}
 use mathlib.Core.Bool.{true}
 use mathlib.Core.List.{List}
 use native.Mathlib.Omega.{arith}
@@ -14,10 +14,10 @@ use Rattle.rules.specs.declared.Mode.the-variants.{Ecb, Cbc, Cfb, Ofb, Ctr}
 use Rattle.rules.specs.declared.Direction.{Direction}
 use Rattle.rules.specs.Rules.{start}
 use Rattle.modes.specs.declared.session.Opened.{Opened}
-use Rattle.modes.specs.Questions.{ivOk}
+use Rattle.questions.specs.Questions.{ivOk}
 use Rattle.modes.specs.Sessions.{OpenedBy, openNumber, openedSession}
 use Rattle.modes.specs.Promises.{RefusedOpening}
-use Rattle.modes.proofs.QuestionLaws.{OpeningTaken, opening-taken}
+use Rattle.questions.proofs.QuestionLaws.{OpeningTaken, opening-taken}
 use Rattle.modes.proofs.SessionLaws.{Ready}
 
 zero-byte : (n i : ℕ) → _≡_ {A = ℕ} (getD (replicate n 0) i 0) 0

@@ -1,10 +1,10 @@
 -- The registers that the machine goes through along a list of feeds are those of the unit rules on the joined ciphertext.
 -- Assumes nothing.
-use Prim.Native.Nat.{ℕ, zero, suc, _+_, _%_, _≤_, _<_}
+use Prim.Native.Nat.{ℕ, zero, suc, _+_, _%_, _<_}
 use mathlib.Core.Path.{_≡_, refl, sym, ap, ap₂, _∙_}
 use mathlib.Core.Bool.{Bool, true, false}
 use mathlib.Core.List.{List, [], _∷_, _++_, append-nil}
-use native.Mathlib.Nat.{suc-add, add-suc, zero-add, le-refl}
+use native.Mathlib.Nat.{suc-add, add-suc, zero-add}
 use native.Mathlib.Omega.{arith}
 use lib.ListN.{length, getD}
 use Rattle.aes.specs.Calls.{encrypted, decrypted}
@@ -16,7 +16,7 @@ use Rattle.modes.specs.Sessions.{FedBy, sessionRegister, fedSession, fed
 use Rattle.modes.specs.Machine.{Machine, machineUnit, machineUnits, unitRegisters, feedRegisters}
 use Rattle.modes.specs.Lists.{Call, Run, done, fed, accepted, fedBits, allFed, registersAfter}
 use Rattle.modes.proofs.SessionLaws.{Ready, some-bits, bits-of-units, encBy, decBy, whole-fed}
-use Rattle.modes.proofs.RunLaws.{Refused, Accepted, Step, refused, taken, accepted-fed, step, step-ready, ended}
+use Rattle.modes.proofs.RunLaws.{Accepted, Step, refused, taken, accepted-fed, step, step-ready, ended}
 use Rattle.modes.proofs.MachineLaws.{sessionOf, units-register}
 use Rattle.modes.proofs.AgreementLaws.{fedMachine, same-number, agree}
 

@@ -9,9 +9,9 @@ use lib.Dec.{eqb}
 use lib.ListN.{length, length-append}
 use borrow.Author.Tests.{eqb-true, not-false}
 use Rattle.bits.specs.Blocks.{BlockCipher}
-use Rattle.aes.specs.Cipher.{Enc, Dec, roundsOk}
-use Rattle.aes.specs.Calls.{UndoEachOther}
-use Rattle.aes.proofs.CipherLaws.{undo-each-other}
+use Rattle.cipher.specs.Cipher.{Enc, Dec, roundsOk}
+use Rattle.cipher.specs.Promises.{UndoEachOther}
+use Rattle.cipher.proofs.CipherLaws.{undo-each-other}
 use Rattle.rules.specs.declared.Mode.{Mode}
 use Rattle.rules.specs.declared.Mode.the-variants.{Ecb, Cbc, Cfb, Ofb, Ctr}
 use Rattle.rules.specs.Lengths.{unitLengthOk, wholeUnits}

@@ -1,10 +1,10 @@
 -- Units read from bytes and written to bytes: what the window over the input reads is the unit, and each written unit goes
 -- behind those before it. Assumes nothing.
 use Prim.Native.Nat.{ℕ, zero, suc, _+_, _-_, _*_, _/_, _%_, _≤_, _<_, min}
-use mathlib.Core.Path.{_≡_, refl, sym, ap, ap₂, _∙_, subst}
+use mathlib.Core.Path.{_≡_, refl, sym, ap, ap₂, _∙_}
 use mathlib.Core.Bool.{Bool, true}
 use mathlib.Core.List.{List, [], _∷_, _++_}
-use native.Mathlib.Nat.{sub-zero, zero-sub, suc-sub-suc, zero-min, min-zero, suc-min-suc, suc-add, zero-add, suc-mul, div-add-mod', min-eq-left, min-eq-right, le-refl, add-sub-of-le, suc-ne-zero}
+use native.Mathlib.Nat.{sub-zero, zero-sub, suc-sub-suc, zero-min, min-zero, suc-min-suc, suc-add, zero-add, div-add-mod', min-eq-left, min-eq-right, le-refl, add-sub-of-le, suc-ne-zero}
 use native.Mathlib.Omega.{arith}
 use borrow.Author.Tests.{eq-eqb, le-leb, eqb-true}
 use lib.ListN.{length, take, drop, replicate, length-take, length-drop, length-append}
@@ -23,13 +23,13 @@ use Rattle.rules.proofs.Joined.{unit-length}
 use Rattle.rules.proofs.Taken.{unit-bounds, Taken, taken}
 use Rattle.rules.proofs.Units.{UnitLength}
 use Rattle.rules.proofs.Undo.{part-length, registers-block}
-use Rattle.aes.specs.Cipher.{Enc, Dec}
-use Rattle.aes.specs.Calls.{UndoEachOther}
-use Rattle.aes.proofs.CipherLaws.{undo-each-other}
-use Rattle.modes.specs.Questions.{ivOk}
-use Rattle.modes.specs.Turns.{Turned, unitSizeOk}
+use Rattle.cipher.specs.Cipher.{Enc, Dec}
+use Rattle.cipher.specs.Promises.{UndoEachOther}
+use Rattle.cipher.proofs.CipherLaws.{undo-each-other}
+use Rattle.questions.specs.Questions.{ivOk}
+use Rattle.units.specs.Turns.{Turned, unitSizeOk}
 use Rattle.modes.specs.Works.{Workable, RunsUnder, UnitWorked, Worked}
-use Rattle.modes.proofs.TurnLaws.{out-same, next-same}
+use Rattle.units.proofs.TurnLaws.{out-same, next-same}
 
 drop-take : {A : Type 0} (a c : ℕ) (z : List A) → drop a (take c z) ≡ take (c - a) (drop a z)
 drop-take zero c z = ap (λ k. take k z) (sym (sub-zero c))

@@ -1,7 +1,5 @@
 -- Sessions, what each call answers, the plain machine, lists of calls, and what is promised of them.
-pub mod Questions
 pub mod Sessions
-pub mod Turns
 pub mod Works
 pub mod Machine
 pub mod Lists

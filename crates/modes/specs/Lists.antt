@@ -1,8 +1,7 @@
 -- Lists of calls: each is a feed on the session that the one before returned, with its own input and output, and each step is
 -- the feed's own `ensures` clause. So what is shown of a list is shown of the code.
 use Prim.Native.Nat.{ℕ}
-use mathlib.Core.Path.{_≡_}
-use mathlib.Core.Bool.{Bool, true, false, cond}
+use mathlib.Core.Bool.{Bool, cond}
 use mathlib.Core.List.{List, [], _∷_, _++_}
 use lib.Dec.{eqb}
 use lib.ListN.{length, take, drop}

@@ -9,7 +9,7 @@ use Rattle.bits.specs.Texts.{bits}
 use Rattle.aes.specs.Calls.{keyRounds, encrypted, decrypted}
 use Rattle.rules.specs.declared.Mode.{Mode}
 use Rattle.rules.specs.Rules.{start, next, plain, unitsIn}
-use Rattle.modes.specs.Questions.{ask, feedQuestions}
+use Rattle.questions.specs.Questions.{ask, feedQuestions}
 
 -- An opening's arguments, but for the direction.
 pub record Opening : Type 0 where

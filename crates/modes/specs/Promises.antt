@@ -19,7 +19,6 @@ use Rattle.rules.specs.Promises.{other, CommonRun, Differ, OneUnitChanged, OneB
 use Rattle.modes.specs.declared.session.Session.{Session}
 use Rattle.modes.specs.declared.session.Opened.{Opened}
 use Rattle.modes.specs.declared.session.Fed.{Fed}
-use Rattle.modes.specs.Questions.{Question, ask, feedQuestions}
 use Rattle.modes.specs.Sessions.{Arrays, OpenedBy, refusedSession, FedBy, sessionText, fedText}
 use Rattle.modes.specs.Machine.{Opening, Machine, machineStart, machineNumber, machineFeed}
 use Rattle.modes.specs.Lists.{Call, Run, allFed, allWritten, writtenBits, machineAfter, registers}
@@ -63,15 +62,6 @@ unfoldable pub ClosesAfterShort : Type 0
 ClosesAfterShort =
     (s : Session) (input : List ℕ) (count : ℕ) (out : List ℕ) (place : ℕ) (r : Fed) (after : List ℕ)
     → FedBy s input count out place r after → r .number ≡ 0 → (r .session .closed ≡ true) ↔ (count % s .n ≡ 0 → ⊥)
-
--- The number is that of the first question answered 'no': those before it are answered 'yes'.
-pub data FirstNo : List Question → ℕ → Type 0 where
-  all-yes : FirstNo [] 0
-  here : {q : Question} {qs : List Question} → q .yes ≡ false → FirstNo (q ∷ qs) (q .number)
-  later : {q : Question} {qs : List Question} {k : ℕ} → q .yes ≡ true → FirstNo qs k → FirstNo (q ∷ qs) k
-
-unfoldable pub NumberIsFirstNo : Type 0
-NumberIsFirstNo = (qs : List Question) → FirstNo qs (ask qs)
 
 -- ---- Demand 2
 

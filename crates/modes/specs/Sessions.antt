@@ -2,12 +2,12 @@
 use Prim.Native.Nat.{ℕ, _+_, _%_}
 use mathlib.Core.Path.{_≡_}
 use mathlib.Core.Bool.{Bool, true, false, cond, not}
-use mathlib.Core.List.{List, [], _++_}
+use mathlib.Core.List.{List, _++_}
 use lib.Dec.{eqb}
 use lib.ListN.{length, take, drop, replicate}
 use Rattle.bits.specs.Texts.{bits, pack}
 use Rattle.bits.specs.Blocks.{Bytes, Block}
-use Rattle.aes.specs.Cipher.{Enc, Dec}
+use Rattle.cipher.specs.Cipher.{Enc, Dec}
 use Rattle.aes.specs.Calls.{keyRounds, keyBytes}
 use Rattle.rules.specs.declared.Mode.{Mode}
 use Rattle.rules.specs.declared.Mode.the-variants.{Ecb}
@@ -17,7 +17,7 @@ use Rattle.rules.specs.Rules.{start, unitsIn, registerAt, worked}
 use Rattle.modes.specs.declared.session.Session.{Session}
 use Rattle.modes.specs.declared.session.Opened.{Opened}
 use Rattle.modes.specs.declared.session.Fed.{Fed}
-use Rattle.modes.specs.Questions.{ask, openQuestions, feedQuestions}
+use Rattle.questions.specs.Questions.{ask, openQuestions, feedQuestions}
 
 -- What a session's type says of its arrays, and the lists of a contract do not: 16 register bytes, and 240 key bytes.
 pub record Arrays (s : Session) : Type 0 where

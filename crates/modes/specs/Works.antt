@@ -1,17 +1,17 @@
 -- What the loop over a feed's units may assume, and what it gives.
 use Prim.Native.Nat.{ℕ, _*_, _≤_}
 use mathlib.Core.Path.{_≡_}
-use mathlib.Core.Bool.{Bool, true}
+use mathlib.Core.Bool.{true}
 use mathlib.Core.List.{List, _++_}
 use lib.ListN.{length, take, drop}
 use Rattle.bits.specs.Texts.{bits, bytesFor, pack, putBits}
 use Rattle.bits.specs.Blocks.{Bytes}
-use Rattle.aes.specs.Cipher.{Enc, Dec, roundsOk}
+use Rattle.cipher.specs.Cipher.{Enc, Dec, roundsOk}
 use Rattle.rules.specs.declared.Mode.{Mode}
 use Rattle.rules.specs.declared.Direction.{Direction}
 use Rattle.rules.specs.Lengths.{unitLengthOk, wholeUnits}
-use Rattle.modes.specs.Questions.{maxBits}
-use Rattle.modes.specs.Turns.{Runs}
+use Rattle.questions.specs.Questions.{maxBits}
+use Rattle.units.specs.Turns.{Runs}
 use Rattle.rules.specs.Rules.{unitsIn, unitAt, outOf, nextOf, registerAt, worked}
 
 pub record Workable (mode : Mode) (n : ℕ) (input : List ℕ) (count : ℕ) (out : List ℕ) : Type 0 where

@@ -1,5 +1,4 @@
 // Sessions: opened under a key and an IV, and fed; a feed takes the session and gives the next one.
-use crate::questions;
 use crate::work;
 use rules::Direction;
 use rules::Mode;
@@ -31,15 +30,16 @@ pub struct Fed {
 
 impl Session {
     // The block, in bytes.
-    pub const BLOCK: usize = 16;
+    pub const BLOCK: usize = questions::BLOCK;
 
     // The largest feed, in bits.
-    pub const MAX_BITS: usize = 524288;
+    pub const MAX_BITS: usize = questions::MAX_BITS;
 
     // The most units that a session does.
-    pub const MAX_UNITS: u32 = 4294967295;
+    pub const MAX_UNITS: u32 = questions::MAX_UNITS;
 
-    fn refused() -> Session
+    // What a refused opening gives.
+    pub fn refused() -> Session
         ensures { λ r. ⌜ r ≡ refusedSession ⌝ }
     {
         Session {
@@ -77,7 +77,7 @@ impl Session {
             };
         }
         // The IV, and zero bytes where there is none.
-        let register = bits::window(iv, 0, 128);
+        let register = bits::window(iv, 0, questions::BLOCK_BITS);
         let keys = schedule.keys;
         let units: u32 = 0;
         let session = Session {

@@ -1,13 +1,11 @@
 // The loop over a feed's units.
-use crate::questions;
 use crate::session::Session;
-use crate::turn;
 use rules::Direction;
 use rules::Mode;
 ghost use mathlib.Core.Path.{_≡_};
 ghost use mathlib.Core.Bool.{true};
 ghost use Prim.Native.Nat.{_<_, min};
-ghost use Rattle.aes.specs.Cipher.{roundsOk};
+ghost use Rattle.cipher.specs.Cipher.{roundsOk};
 ghost use Rattle.rules.specs.Rules.{unitsIn};
 ghost use Rattle.prepared.specs.Rounds.{blockBy};
 ghost use Rattle.modes.specs.Works.{Workable, RunsUnder, UnitWorked, Worked};
@@ -40,7 +38,7 @@ fn work_unit(
     let at = t * n;
     let size = smaller(n, bits - at);
     let a = at / 8;
-    let step = turn::turn(
+    let step = units::turn(
         mode,
         direction,
         dec,
@@ -109,7 +107,7 @@ pub fn work(session: Session, input: &[u8], bits: usize, out: &mut [u8]) -> [u8;
     let mode = session.mode;
     let direction = session.direction;
     let keys = session.keys;
-    let dec = turn::runs_dec(mode, direction);
+    let dec = units::runs_dec(mode, direction);
     let made = prepared::prepare(dec, session.rounds, &keys);
     work_units(
         session,

@@ -8,9 +8,9 @@ use borrow.Author.Tests.{leb-true, eq-eqb, ne-eqb}
 use lib.Dec.{eqb, leb}
 use lib.ListN.{length}
 use Rattle.bits.specs.Texts.{bits, bytesFor}
-use Rattle.modes.specs.Questions.{ask, bitsOk, roomOk, maxBits}
+use Rattle.questions.specs.Questions.{ask, bitsOk, roomOk, maxBits}
 use Rattle.modes.specs.Sessions.{fedText, written}
-use Rattle.modes.proofs.QuestionLaws.{first-yes, bits-small, bits-there}
+use Rattle.questions.proofs.QuestionLaws.{first-yes, bits-small, bits-there}
 use Rattle.padding.specs.Padding.{padded, paddedLength, maxPadBits, padQuestions, padNumber, PaddedBy, unpaddedLength, wholeBlocks, holdsOne, unpadQuestions, unpadNumber, UnpaddedBy}
 use Rattle.padding.proofs.PadLaws.{length-padded, length-fed}
 

@@ -5,7 +5,7 @@ use mathlib.Core.Bool.{true, false, and-false}
 use native.Mathlib.Omega.{arith}
 use lib.Dec.{leb}
 use borrow.Author.Tests.{le-leb, eq-eqb, ne-eqb}
-use Rattle.modes.specs.Questions.{bitsOk, roomOk}
+use Rattle.questions.specs.Questions.{bitsOk, roomOk}
 use Rattle.padding.specs.Padding.{wholeBlocks}
 
 module _ (limit bytes count : ℕ) where

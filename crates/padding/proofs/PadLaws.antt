@@ -9,7 +9,7 @@ use lib.ListN.{length, take, drop, set, replicate, length-append, length-take, l
 use lib.Seq.{length-take-le, take-take, take-append-le}
 use Rattle.bits.specs.Texts.{bit, byteBits, bits, bytesFor, pack, putBits}
 use Rattle.bits.proofs.Texts.{length-bits, bits-append, take-bits, length-pack, drop-front}
-use Rattle.modes.specs.Questions.{maxBits}
+use Rattle.questions.specs.Questions.{maxBits}
 use Rattle.modes.specs.Sessions.{fedText, written}
 use Rattle.modes.proofs.WrittenLaws.{written-text, written-size}
 use Rattle.padding.specs.Padding.{zerosFor, padded, paddedLength, maxPadBits}

@@ -8,7 +8,7 @@ use borrow.Author.Tests.{eq-eqb, ne-eqb}
 use lib.Dec.{eqb}
 use lib.ListN.{length, drop}
 use Rattle.bits.specs.Texts.{bits, bytesFor}
-use Rattle.modes.specs.Questions.{ask, maxBits}
+use Rattle.questions.specs.Questions.{ask, maxBits}
 use Rattle.modes.specs.Sessions.{fedText, written}
 use Rattle.padding.specs.declared.strip.Unpadded.{Unpadded}
 use Rattle.padding.specs.Padding.{zerosFor, padded, paddedLength, maxPadBits, padQuestions, padNumber, upToLastOne, unpaddedLength, holdsOne, unpadNumber, UnpaddedBy}

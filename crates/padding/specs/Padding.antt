@@ -7,7 +7,7 @@ use mathlib.Core.List.{List, [], _∷_, _++_}
 use lib.Dec.{eqb, leb}
 use lib.ListN.{length, getD, replicate}
 use Rattle.bits.specs.Texts.{bytesFor}
-use Rattle.modes.specs.Questions.{Question, ask, bitsOk, roomOk, maxBits}
+use Rattle.questions.specs.Questions.{Question, ask, bitsOk, roomOk, maxBits}
 use Rattle.modes.specs.Sessions.{fedText, written}
 use Rattle.padding.specs.declared.append.Padded.{Padded}
 use Rattle.padding.specs.declared.strip.Unpadded.{Unpadded}

@@ -1,12 +1,12 @@
 // Pad: one 1 bit behind the text, then the fewest 0 bits that reach a multiple of 128.
-use crate::BLOCK_BITS;
 use modes::Session;
+use questions::BLOCK_BITS;
 ghost use mathlib.Core.Path.{_≡_};
 ghost use mathlib.Core.List.{_++_};
 ghost use Prim.Native.Nat.{_*_, _≤_};
 ghost use lib.ListN.{length, take, drop};
 ghost use Rattle.bits.specs.Texts.{bytesFor, pack};
-ghost use Rattle.modes.specs.Questions.{ask};
+ghost use Rattle.questions.specs.Questions.{ask};
 ghost use Rattle.modes.specs.Sessions.{fedText};
 ghost use Rattle.padding.specs.Padding.{padded, paddedLength, maxPadBits, padQuestions, PaddedBy};
 
@@ -27,10 +27,10 @@ fn padded_bits(bits: usize) -> usize
 fn pad_number(bytes: usize, bits: usize, size: usize, place: usize) -> u8
     ensures { λ r. ⌜ r ≡ ask (padQuestions bytes bits size place) ⌝ }
 {
-    if !modes::bits_ok(Session::MAX_BITS - 1, bytes, bits) {
+    if !questions::bits_ok(Session::MAX_BITS - 1, bytes, bits) {
         return 6;
     }
-    if !modes::room_ok(size, place, padded_bits(bits) / 8) {
+    if !questions::room_ok(size, place, padded_bits(bits) / 8) {
         return 8;
     }
     0

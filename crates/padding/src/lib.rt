@@ -1,6 +1,4 @@
 // Padding (document 01, "Padding, one block, comparison"): pad a text to whole blocks, and find the text in a padded one.
-use modes::Session;
-
 mod append;
 mod strip;
 
@@ -8,5 +6,3 @@ pub use append::Padded;
 pub use append::pad;
 pub use strip::Unpadded;
 pub use strip::unpad;
-
-const BLOCK_BITS: usize = 8 * Session::BLOCK;

@@ -1,11 +1,11 @@
 // Unpad: from the end, pass 0 bits up to the first 1 bit.
-use crate::BLOCK_BITS;
 use modes::Session;
+use questions::BLOCK_BITS;
 ghost use mathlib.Core.Path.{_≡_};
 ghost use Prim.Native.Nat.{_*_, _≤_};
 ghost use lib.ListN.{length};
 ghost use Rattle.bits.specs.Texts.{bits, byteBits};
-ghost use Rattle.modes.specs.Questions.{maxBits};
+ghost use Rattle.questions.specs.Questions.{maxBits};
 ghost use Rattle.padding.specs.Padding.{upToLastOne, UnpaddedBy};
 
 // The number, and how many bits the text has, 0 when refused.
@@ -48,7 +48,7 @@ fn used_bits_of(s: &[u8], bytes: usize) -> usize
 pub fn unpad(input: &[u8], bits: usize) -> Unpadded
     ensures { λ r. ⌜ UnpaddedBy (now (input .entry)) bits r ⌝ }
 {
-    if !modes::bits_ok(Session::MAX_BITS, input.len(), bits) {
+    if !questions::bits_ok(Session::MAX_BITS, input.len(), bits) {
         return Unpadded { number: 6, bits: 0 };
     }
     if bits == 0 {

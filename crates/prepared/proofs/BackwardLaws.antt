@@ -12,15 +12,14 @@ use Rattle.bits.specs.Blocks.{Block}
 use Rattle.bits.proofs.Xor as Xor
 use Rattle.field.specs.Field.{product}
 use Rattle.field.specs.Boxes.{Tabulates}
-use Rattle.field.specs.Rows.{four}
+use Rattle.field.specs.Rows.{four, wordAt}
 use Rattle.field.proofs.FieldLaws.{product-xor}
-use Rattle.aes.specs.State.{at, state, fromBlock, toBlock}
-use Rattle.aes.specs.Steps.{bytewise, invSubBytes, shiftRows, invShiftRows, circulant, dot, mixWith, invMixColumns, addRoundKey}
+use Rattle.cipher.specs.State.{at, state, fromBlock, toBlock}
+use Rattle.cipher.specs.Steps.{bytewise, invSubBytes, shiftRows, invShiftRows, circulant, dot, mixWith, invMixColumns, addRoundKey}
 use Rattle.field.proofs.Fours.{four-ext}
-use Rattle.aes.specs.KeyExpansion.{wordAt}
-use Rattle.aes.specs.Cipher.{invRounds, invCipher}
-use Rattle.aes.proofs.StateLaws.{StateBytes, at-state, state-ext, state-byte}
-use Rattle.aes.proofs.MixLaws.{dot-ext}
+use Rattle.cipher.specs.Cipher.{invRounds, invCipher}
+use Rattle.cipher.proofs.StateLaws.{StateBytes, at-state, state-ext, state-byte}
+use Rattle.cipher.proofs.MixLaws.{dot-ext}
 use Rattle.prepared.specs.Words.{byteAt}
 use Rattle.prepared.specs.Rounds.{tableRound, lastRound, addWords, roundsBy, mirrored, arranged, blockByRounds}
 use Rattle.prepared.specs.Prepared.{substituted, matrix, Holds, entryRule, unmixed, reversedRule, backwardRule}

@@ -10,8 +10,8 @@ use Rattle.bits.specs.Counter.{numberBytes}
 use Rattle.bits.proofs.Xor as Xor
 use Rattle.field.specs.Rows.{four}
 use Rattle.field.proofs.Fours.{four-ext}
-use Rattle.aes.specs.State.{at, state, column, fromBlock, toBlock}
-use Rattle.aes.specs.Steps.{bytewise, shiftRows}
+use Rattle.cipher.specs.State.{at, state, column, fromBlock, toBlock}
+use Rattle.cipher.specs.Steps.{bytewise, shiftRows}
 use Rattle.prepared.specs.Words.{byteAt, wordBytes, ofWords}
 use Rattle.prepared.specs.Rounds.{entrySum, drawn, roundColumn, lastColumn, tableRound, lastRound, addWords, mirrored, arranged}
 use Rattle.prepared.proofs.ByteLaws.{same-four, byte-xor, sum-bytes, top, second, third, bottom}

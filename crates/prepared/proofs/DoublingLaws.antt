@@ -10,7 +10,7 @@ use Rattle.field.specs.Field.{double, product}
 use Rattle.field.specs.Rows.{four}
 use Rattle.field.proofs.FieldLaws.{double-xor, double-byte, times-one, times-two, times-three, times-nine, times-eleven, times-thirteen, times-fourteen}
 use Rattle.field.proofs.RowLaws.{join-four}
-use Rattle.aes.specs.Steps.{circulant, dot}
+use Rattle.cipher.specs.Steps.{circulant, dot}
 use Rattle.prepared.specs.Words.{byteAt, wordBytes}
 use Rattle.prepared.specs.Prepared.{matrix, columnTimes, unmixed}
 use Rattle.prepared.proofs.ByteLaws.{same-four, bytes-joined, sum-bytes}

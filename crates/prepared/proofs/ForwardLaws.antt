@@ -9,11 +9,11 @@ use Rattle.bits.specs.Xor.{xor}
 use Rattle.bits.specs.Blocks.{Block}
 use Rattle.bits.proofs.Xor as Xor
 use Rattle.field.specs.Boxes.{Tabulates}
-use Rattle.aes.specs.State.{at, fromBlock, toBlock}
-use Rattle.aes.specs.Steps.{subBytes, shiftRows, mixColumns, addRoundKey}
-use Rattle.aes.specs.KeyExpansion.{wordAt}
-use Rattle.aes.specs.Cipher.{rounds, cipher}
-use Rattle.aes.proofs.StateLaws.{StateBytes, state-ext, state-byte, fromBlock-square}
+use Rattle.field.specs.Rows.{wordAt}
+use Rattle.cipher.specs.State.{at, fromBlock, toBlock}
+use Rattle.cipher.specs.Steps.{subBytes, shiftRows, mixColumns, addRoundKey}
+use Rattle.cipher.specs.Cipher.{rounds, cipher}
+use Rattle.cipher.proofs.StateLaws.{StateBytes, state-ext, state-byte, fromBlock-square}
 use Rattle.prepared.specs.Words.{byteAt}
 use Rattle.prepared.specs.Rounds.{tableRound, lastRound, addWords, roundsBy, arranged, blockByRounds}
 use Rattle.prepared.specs.Prepared.{substituted, matrix, Holds, entryRule}

@@ -8,9 +8,8 @@ use native.Mathlib.Omega.{arith}
 use lib.Dec.{ltb}
 use lib.ListN.{getD}
 use borrow.Author.Tests.{ltb-true, ltb-false}
-use Rattle.field.specs.Rows.{four}
-use Rattle.aes.specs.KeyExpansion.{wordAt}
-use Rattle.aes.specs.Cipher.{roundsOk}
+use Rattle.field.specs.Rows.{four, wordAt}
+use Rattle.cipher.specs.Cipher.{roundsOk}
 use Rattle.prepared.specs.Words.{wordBytes}
 use Rattle.prepared.specs.Prepared.{Holds, reversedRule, backwardRule, Scheduled, Unmixed, unmixed}
 use Rattle.prepared.proofs.ByteLaws.{same-four}

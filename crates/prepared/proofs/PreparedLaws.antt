@@ -6,9 +6,9 @@ use Prim.Native.Nat.{ℕ}
 use native.Mathlib.Omega.{arith}
 use Rattle.bits.specs.Blocks.{Block}
 use Rattle.field.specs.Boxes.{Tabulates}
-use Rattle.aes.specs.Cipher.{roundsOk, Enc, Dec}
-use Rattle.aes.proofs.CipherLaws.{enc-cipher, dec-cipher, enc-refused, dec-refused}
-use Rattle.aes.proofs.RoundLaws.{rounds-bounds}
+use Rattle.cipher.specs.Cipher.{roundsOk, Enc, Dec}
+use Rattle.cipher.proofs.CipherLaws.{enc-cipher, dec-cipher, enc-refused, dec-refused}
+use Rattle.cipher.proofs.RoundLaws.{rounds-bounds}
 use Rattle.prepared.specs.Rounds.{blockBy}
 use Rattle.prepared.specs.Prepared.{PreparedFor, substituted, Holds, entryRule, Scheduled}
 use Rattle.prepared.proofs.RunLaws.{run-rounds, run-refused}

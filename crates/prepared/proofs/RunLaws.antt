@@ -5,8 +5,8 @@ use mathlib.Core.List.{List}
 use Prim.Native.Nat.{ℕ, suc, _+_, _-_, _≤_}
 use native.Mathlib.Omega.{arith}
 use lib.ListN.{replicate}
-use Rattle.aes.specs.State.{fromBlock, toBlock}
-use Rattle.aes.specs.Cipher.{roundsOk}
+use Rattle.cipher.specs.State.{fromBlock, toBlock}
+use Rattle.cipher.specs.Cipher.{roundsOk}
 use Rattle.prepared.specs.Rounds.{tableRound, lastRound, addWords, roundsBy, arranged, blockByRounds, blockBy}
 
 pub round-more : (table words : List ℕ) (round : ℕ) → 1 ≤ round → (x : List (List ℕ)) {s next : List (List ℕ)} → s ≡ roundsBy table words (round - 1) x

@@ -12,11 +12,11 @@ use Rattle.field.specs.Field.{product}
 use Rattle.field.specs.Boxes.{subByte, invSubByte, Tabulates}
 use Rattle.field.specs.Rows.{four}
 use Rattle.field.proofs.Fours.{four-at}
-use Rattle.aes.specs.State.{at, state}
-use Rattle.aes.specs.Steps.{bytewise, shiftRows, circulant, dot, mixWith}
-use Rattle.aes.proofs.StateLaws.{StateBytes, at-state, state-ext, state-byte}
-use Rattle.aes.proofs.StepLaws.{bytewise-table}
-use Rattle.aes.proofs.MixLaws.{dot-ext}
+use Rattle.cipher.specs.State.{at, state}
+use Rattle.cipher.specs.Steps.{bytewise, shiftRows, circulant, dot, mixWith}
+use Rattle.cipher.proofs.StateLaws.{StateBytes, at-state, state-ext, state-byte}
+use Rattle.cipher.proofs.StepLaws.{bytewise-table}
+use Rattle.cipher.proofs.MixLaws.{dot-ext}
 use Rattle.prepared.specs.Words.{byteAt, wordBytes}
 use Rattle.prepared.specs.Rounds.{entrySum, tableRound, lastRound}
 use Rattle.prepared.specs.Prepared.{substituted, matrix, columnTimes, Holds, entryRule}

@@ -2,16 +2,15 @@
 use Prim.Native.Nat.{ℕ, _+_, _-_, _*_, _/_, _%_, _≤_, _<_}
 use mathlib.Core.Path.{_≡_}
 use mathlib.Core.Bool.{Bool, true, false, cond}
-use mathlib.Core.List.{List, [], _∷_}
+use mathlib.Core.List.{List}
 use lib.Dec.{ltb}
 use lib.ListN.{getD}
 use Rattle.bits.specs.Blocks.{Block}
 use Rattle.field.specs.Field.{product}
 use Rattle.field.specs.Boxes.{subByte, invSubByte}
-use Rattle.field.specs.Rows.{four}
-use Rattle.aes.specs.Steps.{mixRow, invMixRow, circulant, dot}
-use Rattle.aes.specs.KeyExpansion.{wordAt}
-use Rattle.aes.specs.Cipher.{roundsOk, Enc, Dec}
+use Rattle.field.specs.Rows.{four, wordAt}
+use Rattle.cipher.specs.Steps.{mixRow, invMixRow, circulant, dot}
+use Rattle.cipher.specs.Cipher.{roundsOk, Enc, Dec}
 use Rattle.prepared.specs.Words.{wordBytes}
 use Rattle.prepared.specs.Rounds.{blockBy}
 

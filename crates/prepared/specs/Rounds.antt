@@ -5,9 +5,9 @@ use mathlib.Core.List.{List, [], _∷_}
 use lib.ListN.{getD, replicate}
 use Rattle.bits.specs.Xor.{xor}
 use Rattle.field.specs.Rows.{four}
-use Rattle.aes.specs.State.{at, state, fromBlock, toBlock}
-use Rattle.aes.specs.Steps.{bytewise, shiftRows}
-use Rattle.aes.specs.Cipher.{roundsOk}
+use Rattle.cipher.specs.State.{at, state, fromBlock, toBlock}
+use Rattle.cipher.specs.Steps.{bytewise, shiftRows}
+use Rattle.cipher.specs.Cipher.{roundsOk}
 use Rattle.prepared.specs.Words.{byteAt}
 
 -- Row r of the sum of the entries of four bytes, that of byte k in part k of the table.

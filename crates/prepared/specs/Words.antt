@@ -3,7 +3,7 @@ use Prim.Native.Nat.{ℕ, _*_, _/_, _%_, _^_}
 use mathlib.Core.List.{List, [], _∷_}
 use lib.ListN.{getD}
 use Rattle.field.specs.Rows.{four}
-use Rattle.aes.specs.State.{state}
+use Rattle.cipher.specs.State.{state}
 
 -- Byte r of a word.
 unfoldable pub byteAt : ℕ → ℕ → ℕ

@@ -4,8 +4,8 @@ use crate::rounds::Columns;
 use crate::words;
 ghost use mathlib.Core.Path.{_≡_};
 ghost use mathlib.Core.Bool.{true};
-ghost use Rattle.aes.specs.State.{fromBlock, toBlock};
-ghost use Rattle.aes.specs.Cipher.{roundsOk};
+ghost use Rattle.cipher.specs.State.{fromBlock, toBlock};
+ghost use Rattle.cipher.specs.Cipher.{roundsOk};
 ghost use Rattle.prepared.specs.Words.{ofWords};
 ghost use Rattle.prepared.specs.Rounds.{addWords, arranged, blockByRounds, blockBy};
 
@@ -106,7 +106,7 @@ pub fn run(
 ) -> [u8; 16]
     ensures { λ r. ⌜ r ≡ blockBy decrypting rounds (now (table .entry)) (now (last .entry)) (now (words .entry)) block ⌝ }
 {
-    if aes::rounds_ok(rounds) {
+    if cipher::rounds_ok(rounds) {
         by_rounds(decrypting, rounds, table, last, words, block)
     } else {
         [0; 16]

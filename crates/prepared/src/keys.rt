@@ -3,8 +3,8 @@ use crate::words;
 ghost use mathlib.Core.Path.{_≡_};
 ghost use mathlib.Core.Bool.{true};
 ghost use Prim.Native.Nat.{_+_, _*_, _<_};
-ghost use Rattle.aes.specs.KeyExpansion.{wordAt};
-ghost use Rattle.aes.specs.Cipher.{roundsOk};
+ghost use Rattle.field.specs.Rows.{wordAt};
+ghost use Rattle.cipher.specs.Cipher.{roundsOk};
 ghost use Rattle.prepared.specs.Words.{wordBytes};
 ghost use Rattle.prepared.specs.Prepared.{Holds, reversedRule, Scheduled, Unmixed};
 
@@ -60,7 +60,7 @@ pub fn schedule(decrypting: bool, rounds: usize, keys: &[u8; 240]) -> [u32; 60]
     ensures { λ r. ⌜ Scheduled decrypting rounds (now (keys .entry)) r ⌝ }
 {
     if decrypting {
-        if aes::rounds_ok(rounds) {
+        if cipher::rounds_ok(rounds) {
             unmix_middle(rounds, reversed_words(rounds, keys))
         } else {
             [0; 60]

@@ -1,5 +1,5 @@
 // Enc and Dec once more, for many blocks under one key: four words, the columns of the state, and one table of 1024 words for
-// SubBytes and MixColumns together, 256 to a row. What a block needs is prepared once, and lent to each block. The crate `aes`
+// SubBytes and MixColumns together, 256 to a row. What a block needs is prepared once, and lent to each block. The crate `cipher`
 // follows FIPS 197 step by step on the square state. Both are driven by tables, which are read at places that depend on the key.
 mod block;
 mod keys;

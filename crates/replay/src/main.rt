@@ -63,7 +63,7 @@ fn end_line(
 }
 
 // Runs each line that ends in this part of the input, and gathers what stands behind the last.
-fn run_part(
+fn run_lines(
     part: &[u8],
     line: &mut [u8],
     input: &mut [u8],
@@ -86,19 +86,20 @@ fn run_part(
     now
 }
 
-// What stands behind the last line feed.
-fn run_last(
-    line: &[u8],
-    input: &mut [u8],
-    out: &mut [u8],
-    text: &mut [u8; 65536],
-    state: State,
-) -> State {
+// Runs the part's lines, with room for the longest input and output, and writes the answers.
+fn run_part(part: &[u8], line: &mut [u8], text: &mut [u8; 65536], state: State) -> State {
+    let mut input = [0u8; MAX_BYTES];
+    let mut out = [0u8; MAX_BYTES];
+    let next = run_lines(part, line, &mut input, &mut out, text, state);
+    next.with_end(print::flush(text, next.end))
+}
+
+// What stands behind the last line feed, run as if one ended it.
+fn run_last(line: &mut [u8], text: &mut [u8; 65536], state: State) -> State {
     if state.len == 0 {
         return state.stopped();
     }
-    let last = end_line(line, input, out, text, state);
-    last.with_end(print::flush(text, last.end)).stopped()
+    run_part(b"\n", line, text, state).stopped()
 }
 
 // Reads once, and answers how many bytes came: 0 where the input has ended.
@@ -107,38 +108,29 @@ fn read_part(part: &mut [u8]) -> usize {
     io::count(got, part)
 }
 
-// Runs the first `count` bytes of the part and writes the answers. With none, the input has ended.
+// Runs the first `count` bytes of the part. With none, the input has ended.
 fn run_first(
     part: &[u8],
     count: usize,
     line: &mut [u8],
-    input: &mut [u8],
-    out: &mut [u8],
     text: &mut [u8; 65536],
     state: State,
 ) -> State {
     if count == 0 {
-        return run_last(line, input, out, text, state);
+        return run_last(line, text, state);
     }
-    let next = run_part(first(part, count), line, input, out, text, state);
-    next.with_end(print::flush(text, next.end))
+    run_part(first(part, count), line, text, state)
 }
 
 // A proved loop has to end, and nothing says that the input does. So the loop counts its turns down, from a number that no
 // run uses up.
-fn run_all(
-    part: &mut [u8],
-    line: &mut [u8],
-    input: &mut [u8],
-    out: &mut [u8],
-    text: &mut [u8; 65536],
-) {
+fn run_all(part: &mut [u8], line: &mut [u8], text: &mut [u8; 65536]) {
     let mut state = State::new();
     let mut turns = u64::MAX;
     while turns > 0 {
         turns -= 1;
         let count = read_part(part);
-        let next = run_first(part, count, line, input, out, text, state);
+        let next = run_first(part, count, line, text, state);
         if next.stop {
             return;
         }
@@ -150,8 +142,6 @@ fn main() {
     let mut part = [0u8; 65536];
     // A byte more than the longest line.
     let mut line = [0u8; MAX_LINE + 1];
-    let mut input = [0u8; MAX_BYTES];
-    let mut out = [0u8; MAX_BYTES];
     let mut text = [0u8; 65536];
-    run_all(&mut part, &mut line, &mut input, &mut out, &mut text);
+    run_all(&mut part, &mut line, &mut text);
 }

@@ -1,6 +1,7 @@
 // The commands open and feed.
 use crate::arguments::Output;
-use crate::arguments::output_words;
+use crate::arguments::TextWords;
+use crate::arguments::text_words;
 use crate::hex;
 use crate::hex::Short;
 use crate::numbers::Number;
@@ -87,20 +88,17 @@ fn print_fed(
     }
 }
 
-// Feeds the session, with an output of `size` bytes `value`.
 fn feed_into(
     input: &[u8],
     bits: usize,
     out: &mut [u8],
-    size: usize,
-    place: usize,
-    value: u8,
+    output: Output,
     text: &mut [u8; 65536],
     state: State,
 ) -> State {
-    let room = fill(out, size, value);
+    let room = fill(out, output.size, output.fill);
     let session = state.session;
-    let fed = session.feed(input, bits, &mut out[..room], place);
+    let fed = session.feed(input, bits, &mut out[..room], output.place);
     let next = fed.session;
     let end = print_fed(text, state.end, fed.number, first(out, room), next);
     state.with_session(next, end)
@@ -114,24 +112,13 @@ pub fn feed(
     text: &mut [u8; 65536],
     state: State,
 ) -> State {
-    let Number::Value(bits) = decimal(word(line, 1)) else {
-        return bad(state, text);
-    };
-    let Output::Given { size, place, fill } = output_words(line, 2) else {
-        return bad(state, text);
-    };
-    let count = hex::bytes(word(line, 5), input);
-    if input.len() < count {
-        return bad(state, text);
-    }
-    feed_into(
-        first(input, count),
+    let TextWords::Given {
         bits,
-        out,
-        size,
-        place,
-        fill,
-        text,
-        state,
-    )
+        output,
+        count,
+    } = text_words(line, input)
+    else {
+        return bad(state, text);
+    };
+    feed_into(first(input, count), bits, out, output, text, state)
 }

@@ -1,6 +1,11 @@
 // The commands that need no session: pad, unpad, neighbour and block. Each gives the next `end` of the output.
+use crate::arguments::BlockWords;
 use crate::arguments::Output;
+use crate::arguments::OutputWords;
+use crate::arguments::TextWords;
+use crate::arguments::block_words;
 use crate::arguments::output_words;
+use crate::arguments::text_words;
 use crate::hex;
 use crate::hex::Short;
 use crate::numbers::Number;
@@ -14,14 +19,12 @@ fn pad_into(
     input: &[u8],
     bits: usize,
     out: &mut [u8],
-    size: usize,
-    place: usize,
-    value: u8,
+    output: Output,
     text: &mut [u8; 65536],
     end: usize,
 ) -> usize {
-    let room = fill(out, size, value);
-    let padded = padding::pad(input, bits, &mut out[..room], place);
+    let room = fill(out, output.size, output.fill);
+    let padded = padding::pad(input, bits, &mut out[..room], output.place);
     let mut at = print::number(text, end, padded.number as u64, b' ');
     at = print::number(text, at, padded.bits as u64, b' ');
     print::bytes(text, at, first(out, room), b'\n')
@@ -35,17 +38,15 @@ pub fn pad(
     text: &mut [u8; 65536],
     end: usize,
 ) -> usize {
-    let Number::Value(bits) = decimal(word(line, 1)) else {
+    let TextWords::Given {
+        bits,
+        output,
+        count,
+    } = text_words(line, input)
+    else {
         return print::bad(text, end);
     };
-    let Output::Given { size, place, fill } = output_words(line, 2) else {
-        return print::bad(text, end);
-    };
-    let count = hex::bytes(word(line, 5), input);
-    if input.len() < count {
-        return print::bad(text, end);
-    }
-    pad_into(first(input, count), bits, out, size, place, fill, text, end)
+    pad_into(first(input, count), bits, out, output, text, end)
 }
 
 // unpad BITS INPUT
@@ -74,17 +75,13 @@ fn print_neighbour<'a>(
 
 // neighbour IV TEXT J
 pub fn neighbour(line: &[u8], input: &mut [u8], text: &mut [u8; 65536], end: usize) -> usize {
-    let Number::Value(j) = decimal(word(line, 3)) else {
-        return print::bad(text, end);
-    };
     let iv = hex::short_bytes(word(line, 1));
     if !iv.good {
         return print::bad(text, end);
     }
-    let count = hex::bytes(word(line, 2), input);
-    if input.len() < count {
+    let BlockWords::Given { count, j } = block_words(line, 2, input) else {
         return print::bad(text, end);
-    }
+    };
     let iv_bytes = iv.bytes;
     print_neighbour(
         first(&iv_bytes, iv.count),
@@ -101,21 +98,19 @@ fn block_into<'a>(
     input: &'a [u8],
     j: usize,
     out: &mut [u8],
-    size: usize,
-    place: usize,
-    value: u8,
+    output: Output,
     text: &mut [u8; 65536],
     end: usize,
 ) -> usize {
     let key_bytes = key.bytes;
-    let room = fill(out, size, value);
+    let room = fill(out, output.size, output.fill);
     let number = inspect::decrypt_block(
         first(&key_bytes, key.count),
         iv,
         input,
         j,
         &mut out[..room],
-        place,
+        output.place,
     );
     let at = print::number(text, end, number as u64, b' ');
     print::bytes(text, at, first(out, room), b'\n')
@@ -129,10 +124,7 @@ pub fn block(
     text: &mut [u8; 65536],
     end: usize,
 ) -> usize {
-    let Number::Value(j) = decimal(word(line, 4)) else {
-        return print::bad(text, end);
-    };
-    let Output::Given { size, place, fill } = output_words(line, 5) else {
+    let OutputWords::Given(output) = output_words(line, 5) else {
         return print::bad(text, end);
     };
     let key = hex::short_bytes(word(line, 1));
@@ -143,10 +135,9 @@ pub fn block(
     if !iv.good {
         return print::bad(text, end);
     }
-    let count = hex::bytes(word(line, 3), input);
-    if input.len() < count {
+    let BlockWords::Given { count, j } = block_words(line, 3, input) else {
         return print::bad(text, end);
-    }
+    };
     let iv_bytes = iv.bytes;
     block_into(
         key,
@@ -154,9 +145,7 @@ pub fn block(
         first(input, count),
         j,
         out,
-        size,
-        place,
-        fill,
+        output,
         text,
         end,
     )

@@ -2,7 +2,7 @@
 use Prim.Native.Nat.{ℕ, suc, _+_, _-_, _*_, _/_, _%_, _≤_, _<_}
 use mathlib.Core.Path.{_≡_, sym, ap, _∙_}
 use mathlib.Core.Logic.{_↔_}
-use native.Mathlib.Nat.{le-div-iff-mul-le, lt-div-mul-add, mul-add-div-right, div-add-mod', div-eq-of-lt, add-assoc, add-zero, zero-mul}
+use native.Mathlib.Nat.{le-div-iff-mul-le, lt-div-mul-add, mul-add-div-right, div-add-mod', div-eq-of-lt, div-eq-of-lt-le, add-assoc, add-zero, zero-mul}
 use native.Mathlib.Omega.{arith}
 use Rattle.rules.specs.Rules.{unitsIn}
 
@@ -43,3 +43,11 @@ whole-units {n} b pos whole = of-units (b / n) (omega (arith, div-add-mod' b n))
   where
     of-units : (k : ℕ) → b ≡ k * n → b ≡ unitsIn n b * n
     of-units k e = e ∙ ap (λ (m : ℕ). m * n) (sym (units-of k pos) ∙ ap (unitsIn n) (sym e))
+
+-- By the bits past the last whole unit: none, or a short unit more.
+pub units-past : {n : ℕ} (b : ℕ) → 0 < n → unitsIn n b ≡ b / n + unitsIn n (b % n)
+units-past {n} b pos = ap (unitsIn n) (sym (div-add-mod' b n)) ∙ units-add (b / n) (b % n) pos
+
+pub units-short : {n : ℕ} (r : ℕ) → 0 < r → r < n → unitsIn n r ≡ 1
+unfolding unitsIn
+units-short {n} r some short = div-eq-of-lt-le {k = 1} n (omega arith) (omega arith)

@@ -10,13 +10,21 @@ pub fn number(n: u64) {
     io::print_decimal(STDOUT_FILENO, n);
 }
 
-pub fn bytes(b: &[u8]) {
+// The first `count` bytes, or all where there are fewer.
+pub fn front(b: &[u8], count: usize) {
     io::write_all(STDOUT_FILENO, b" ");
     let mut i = 0;
     while i < b.len() {
+        if i == count {
+            return;
+        }
         io::print_hex(STDOUT_FILENO, b[i] as u64, 2);
         i += 1;
     }
+}
+
+pub fn bytes(b: &[u8]) {
+    front(b, b.len());
 }
 
 pub fn byte(b: u8) {

@@ -16,17 +16,10 @@ const IV: [u8; 16] = *b"\x00\x01\x02\x03\x04\x05\x06\x07\x08\x09\x0a\x0b\x0c\x0d
 
 const COUNTER: [u8; 16] = *b"\xf0\xf1\xf2\xf3\xf4\xf5\xf6\xf7\xf8\xf9\xfa\xfb\xfc\xfd\xfe\xff";
 
-// Feeds one unit, the n bits of `input` from bit `at` on, into the same bits of `out`. Its line: the number, R before the unit,
-// and what the unit became, a byte of it for segments of 1 and 8 bits.
-fn unit(session: Session, n: usize, input: &[u8], at: usize, out: &mut [u8]) -> Session
-    requires { ⌜ (n ≤ 128) × (at + n ≤ length (now out) * 8) ⌝ }
-{
-    let text = bits::window(input, at, n);
-    let register = session.register;
-    let mut became = [0u8; 16];
-    let fed = session.feed(&text, n, &mut became, 0);
+// A unit's line: the number, R before the unit, and what the unit became, a byte of it for segments of 1 and 8 bits.
+fn show_unit(number: u8, register: [u8; 16], became: [u8; 16], n: usize) {
     show::label(b"unit");
-    show::number(fed.number as u64);
+    show::number(number as u64);
     show::block(register);
     if n == 128 {
         show::block(became);
@@ -34,6 +27,17 @@ fn unit(session: Session, n: usize, input: &[u8], at: usize, out: &mut [u8]) -> 
         show::byte(became[0]);
     }
     show::end();
+}
+
+// Feeds one unit, the n bits of `input` from bit `at` on, into the same bits of `out`.
+fn unit(session: Session, n: usize, input: &[u8], at: usize, out: &mut [u8]) -> Session
+    requires { ⌜ (n ≤ 128) × (at + n ≤ length (now out) * 8) ⌝ }
+{
+    let text = bits::window(input, at, n);
+    let register = session.register;
+    let mut became = [0u8; 16];
+    let fed = session.feed(&text, n, &mut became, 0);
+    show_unit(fed.number, register, became, n);
     bits::put_bits(out, at, became, n);
     fed.session
 }
@@ -50,29 +54,35 @@ fn by_units(session: Session, n: usize, input: &[u8], bits: usize, out: &mut [u8
     }
 }
 
-// A vector's name; its text fed whole; a line for each unit; and all units together.
-fn vector(
-    name: &[u8],
-    session: Session,
-    n: usize,
-    input: &[u8],
-    bits: usize,
-    out: &mut [u8],
-    joined: &mut [u8],
-)
-    requires { ⌜ (0 < n) × (n ≤ 128) × (bits ≤ length (now joined) * 8) ⌝ }
+fn fed_whole(session: Session, input: &[u8], bytes: usize, out: &mut [u8])
+    requires { ⌜ bytes ≤ 64 ⌝ }
+{
+    let fed = session.feed(input, bytes * 8, out, 0);
+    show::label(b"whole");
+    show::number(fed.number as u64);
+    show::front(out, bytes);
+    show::end();
+}
+
+// A line for each unit, and all units together.
+fn fed_by_units(session: Session, n: usize, input: &[u8], bytes: usize)
+    requires { ⌜ (0 < n) × (n ≤ 128) × (bytes ≤ 64) ⌝ }
+{
+    let mut joined = [0u8; 64];
+    by_units(session, n, input, bytes * 8, &mut joined);
+    show::label(b"by units");
+    show::front(&joined, bytes);
+    show::end();
+}
+
+// A vector's name; the first bytes of its text fed whole, into `out`; and unit by unit.
+fn vector(name: &[u8], session: Session, n: usize, input: &[u8], bytes: usize, out: &mut [u8])
+    requires { ⌜ (0 < n) × (n ≤ 128) × (bytes ≤ 64) ⌝ }
 {
     show::label(name);
     show::end();
-    let fed = session.feed(input, bits, out, 0);
-    show::label(b"whole");
-    show::number(fed.number as u64);
-    show::bytes(out);
-    show::end();
-    by_units(session, n, input, bits, joined);
-    show::label(b"by units");
-    show::bytes(joined);
-    show::end();
+    fed_whole(session, input, bytes, out);
+    fed_by_units(session, n, input, bytes);
 }
 
 fn session(mode: Mode, direction: Direction, n: usize, key: &[u8], iv: &[u8]) -> Session {
@@ -80,75 +90,46 @@ fn session(mode: Mode, direction: Direction, n: usize, key: &[u8], iv: &[u8]) ->
     opened.session
 }
 
-// Four blocks, encrypted, and what came out decrypted.
-fn blocks(encrypt: &[u8], decrypt: &[u8], mode: Mode, key: &[u8], iv: &[u8]) {
+// The first bytes of the text in units of n bits, encrypted, and what came out decrypted.
+fn both_ways(
+    encrypt: &[u8],
+    decrypt: &[u8],
+    mode: Mode,
+    n: usize,
+    bytes: usize,
+    key: &[u8],
+    iv: &[u8],
+)
+    requires { ⌜ (0 < n) × (n ≤ 128) × (bytes ≤ 64) ⌝ }
+{
     let plain = PLAIN;
     let mut cipher = [0u8; 64];
-    let mut joined = [0u8; 64];
-    let forward = session(mode, Direction::Encrypt, 128, key, iv);
-    vector(encrypt, forward, 128, &plain, 512, &mut cipher, &mut joined);
+    let forward = session(mode, Direction::Encrypt, n, key, iv);
+    vector(encrypt, forward, n, &plain, bytes, &mut cipher);
     let mut back = [0u8; 64];
-    let mut joined_back = [0u8; 64];
-    let backward = session(mode, Direction::Decrypt, 128, key, iv);
-    vector(
-        decrypt,
-        backward,
-        128,
-        &cipher,
-        512,
-        &mut back,
-        &mut joined_back,
-    );
+    let backward = session(mode, Direction::Decrypt, n, key, iv);
+    vector(decrypt, backward, n, &cipher, bytes, &mut back);
+}
+
+// Four blocks.
+fn blocks(encrypt: &[u8], decrypt: &[u8], mode: Mode, key: &[u8], iv: &[u8]) {
+    both_ways(encrypt, decrypt, mode, 128, 64, key, iv);
 }
 
 // 18 segments of 8 bits.
 fn cfb8(encrypt: &[u8], decrypt: &[u8], key: &[u8]) {
-    let plain = PLAIN;
     let iv = IV;
-    let mut cipher = [0u8; 18];
-    let mut joined = [0u8; 18];
-    let forward = session(Mode::Cfb, Direction::Encrypt, 8, key, &iv);
-    vector(encrypt, forward, 8, &plain, 144, &mut cipher, &mut joined);
-    let mut back = [0u8; 18];
-    let mut joined_back = [0u8; 18];
-    let backward = session(Mode::Cfb, Direction::Decrypt, 8, key, &iv);
-    vector(
-        decrypt,
-        backward,
-        8,
-        &cipher,
-        144,
-        &mut back,
-        &mut joined_back,
-    );
+    both_ways(encrypt, decrypt, Mode::Cfb, 8, 18, key, &iv);
 }
 
 // 16 segments of 1 bit.
 fn cfb1(encrypt: &[u8], decrypt: &[u8], key: &[u8]) {
-    let plain = PLAIN;
     let iv = IV;
-    let mut cipher = [0u8; 2];
-    let mut joined = [0u8; 2];
-    let forward = session(Mode::Cfb, Direction::Encrypt, 1, key, &iv);
-    vector(encrypt, forward, 1, &plain, 16, &mut cipher, &mut joined);
-    let mut back = [0u8; 2];
-    let mut joined_back = [0u8; 2];
-    let backward = session(Mode::Cfb, Direction::Decrypt, 1, key, &iv);
-    vector(
-        decrypt,
-        backward,
-        1,
-        &cipher,
-        16,
-        &mut back,
-        &mut joined_back,
-    );
+    both_ways(encrypt, decrypt, Mode::Cfb, 1, 2, key, &iv);
 }
 
-fn aes_128() {
-    let key = b"\x2b\x7e\x15\x16\x28\xae\xd2\xa6\xab\xf7\x15\x88\x09\xcf\x4f\x3c";
+fn ecb_and_cbc_128(key: &[u8]) {
     let iv = IV;
-    let counter = COUNTER;
     blocks(
         b"F.1.1 ECB-AES128.Encrypt, guide 1.5.9",
         b"F.1.2 ECB-AES128.Decrypt, guide 1.5.10",
@@ -163,6 +144,10 @@ fn aes_128() {
         key,
         &iv,
     );
+}
+
+fn cfb_128(key: &[u8]) {
+    let iv = IV;
     cfb1(
         b"F.3.1 CFB1-AES128.Encrypt, guide 1.5.3",
         b"F.3.2 CFB1-AES128.Decrypt, guide 1.5.4",
@@ -180,6 +165,11 @@ fn aes_128() {
         key,
         &iv,
     );
+}
+
+fn ofb_and_ctr_128(key: &[u8]) {
+    let iv = IV;
+    let counter = COUNTER;
     blocks(
         b"F.4.1 OFB-AES128.Encrypt, guide 1.5.11",
         b"F.4.2 OFB-AES128.Decrypt, guide 1.5.12",
@@ -196,11 +186,15 @@ fn aes_128() {
     );
 }
 
-fn aes_192() {
-    let key =
-        b"\x8e\x73\xb0\xf7\xda\x0e\x64\x52\xc8\x10\xf3\x2b\x80\x90\x79\xe5\x62\xf8\xea\xd2\x52\x2c\x6b\x7b";
+fn aes_128() {
+    let key = b"\x2b\x7e\x15\x16\x28\xae\xd2\xa6\xab\xf7\x15\x88\x09\xcf\x4f\x3c";
+    ecb_and_cbc_128(key);
+    cfb_128(key);
+    ofb_and_ctr_128(key);
+}
+
+fn ecb_and_cbc_192(key: &[u8]) {
     let iv = IV;
-    let counter = COUNTER;
     blocks(
         b"F.1.3 ECB-AES192.Encrypt",
         b"F.1.4 ECB-AES192.Decrypt",
@@ -215,6 +209,10 @@ fn aes_192() {
         key,
         &iv,
     );
+}
+
+fn cfb_192(key: &[u8]) {
+    let iv = IV;
     cfb1(
         b"F.3.3 CFB1-AES192.Encrypt",
         b"F.3.4 CFB1-AES192.Decrypt",
@@ -232,6 +230,11 @@ fn aes_192() {
         key,
         &iv,
     );
+}
+
+fn ofb_and_ctr_192(key: &[u8]) {
+    let iv = IV;
+    let counter = COUNTER;
     blocks(
         b"F.4.3 OFB-AES192.Encrypt",
         b"F.4.4 OFB-AES192.Decrypt",
@@ -248,11 +251,16 @@ fn aes_192() {
     );
 }
 
-fn aes_256() {
+fn aes_192() {
     let key =
-        b"\x60\x3d\xeb\x10\x15\xca\x71\xbe\x2b\x73\xae\xf0\x85\x7d\x77\x81\x1f\x35\x2c\x07\x3b\x61\x08\xd7\x2d\x98\x10\xa3\x09\x14\xdf\xf4";
+        b"\x8e\x73\xb0\xf7\xda\x0e\x64\x52\xc8\x10\xf3\x2b\x80\x90\x79\xe5\x62\xf8\xea\xd2\x52\x2c\x6b\x7b";
+    ecb_and_cbc_192(key);
+    cfb_192(key);
+    ofb_and_ctr_192(key);
+}
+
+fn ecb_and_cbc_256(key: &[u8]) {
     let iv = IV;
-    let counter = COUNTER;
     blocks(
         b"F.1.5 ECB-AES256.Encrypt",
         b"F.1.6 ECB-AES256.Decrypt",
@@ -267,6 +275,10 @@ fn aes_256() {
         key,
         &iv,
     );
+}
+
+fn cfb_256(key: &[u8]) {
+    let iv = IV;
     cfb1(
         b"F.3.5 CFB1-AES256.Encrypt",
         b"F.3.6 CFB1-AES256.Decrypt",
@@ -284,6 +296,11 @@ fn aes_256() {
         key,
         &iv,
     );
+}
+
+fn ofb_and_ctr_256(key: &[u8]) {
+    let iv = IV;
+    let counter = COUNTER;
     blocks(
         b"F.4.5 OFB-AES256.Encrypt",
         b"F.4.6 OFB-AES256.Decrypt",
@@ -298,6 +315,14 @@ fn aes_256() {
         key,
         &counter,
     );
+}
+
+fn aes_256() {
+    let key =
+        b"\x60\x3d\xeb\x10\x15\xca\x71\xbe\x2b\x73\xae\xf0\x85\x7d\x77\x81\x1f\x35\x2c\x07\x3b\x61\x08\xd7\x2d\x98\x10\xa3\x09\x14\xdf\xf4";
+    ecb_and_cbc_256(key);
+    cfb_256(key);
+    ofb_and_ctr_256(key);
 }
 
 pub fn run() {

@@ -1,4 +1,4 @@
--- The turns that are left fall, and the four buffers keep their lengths. Assumes nothing.
+-- The turns that are left fall, and the two buffers keep their lengths. Assumes nothing.
 use mathlib.Core.Path.{_≡_}
 use lib.ListN.{length}
 use borrow.Author.Needs.{needs}
@@ -6,11 +6,11 @@ use Rattle.replay.proofs.run_all.Statement.{statement}
 use Rattle.replay.proofs.run_all.Tie as tie
 
 abbrev Inv-loop : tie.InvT-loop
-Inv-loop part₀ line₀ input₀ out₀ text₀ state₀ turns₀ part line input out text state turns =
-    (length part ≡ length part₀) × (length line ≡ length line₀) × (length input ≡ length input₀) × (length out ≡ length out₀)
+Inv-loop part₀ line₀ text₀ state₀ turns₀ part line text state turns =
+    (length part ≡ length part₀) × (length line ≡ length line₀)
 
 abbrev μ-loop : tie.MeasureT-loop
-μ-loop part₀ line₀ input₀ out₀ text₀ state₀ turns₀ part line input out text state turns = turns
+μ-loop part₀ line₀ text₀ state₀ turns₀ part line text state turns = turns
 
 new-requires : tie.Need-new-requires Inv-loop μ-loop
 new-requires c κs = search needs
@@ -33,12 +33,6 @@ same-length c = search needs
 same-length-2 : tie.Need-same-length-2 Inv-loop μ-loop
 same-length-2 c = search needs
 
-same-length-3 : tie.Need-same-length-3 Inv-loop μ-loop
-same-length-3 c = search needs
-
-same-length-4 : tie.Need-same-length-4 Inv-loop μ-loop
-same-length-4 c = search needs
-
 returns : tie.Need-returns Inv-loop μ-loop
 returns c = search needs
 
@@ -48,17 +42,11 @@ loop-less c = search needs
 loop-again : tie.Need-loop-again Inv-loop μ-loop
 loop-again c = search needs
 
-same-length-5 : tie.Need-same-length-5 Inv-loop μ-loop
-same-length-5 c = search needs
+same-length-3 : tie.Need-same-length-3 Inv-loop μ-loop
+same-length-3 c = search needs
 
-same-length-6 : tie.Need-same-length-6 Inv-loop μ-loop
-same-length-6 c = search needs
-
-same-length-7 : tie.Need-same-length-7 Inv-loop μ-loop
-same-length-7 c = search needs
-
-same-length-8 : tie.Need-same-length-8 Inv-loop μ-loop
-same-length-8 c = search needs
+same-length-4 : tie.Need-same-length-4 Inv-loop μ-loop
+same-length-4 c = search needs
 
 returns-2 : tie.Need-returns-2 Inv-loop μ-loop
 returns-2 c = search needs
@@ -76,13 +64,9 @@ run-all-spec =
     run-first-requires
     same-length
     same-length-2
-    same-length-3
-    same-length-4
     returns
     loop-less
     loop-again
-    same-length-5
-    same-length-6
-    same-length-7
-    same-length-8
+    same-length-3
+    same-length-4
     returns-2)

@@ -1,5 +1,5 @@
 -- `rules::unit_length_ok` is question 3, mode by mode. Assumes nothing.
-use mathlib.Core.Path.{sym, ap, _∙_}
+use mathlib.Core.Path.{refl, sym, ap, _∙_}
 use mathlib.Core.Bool.{Bool, _&&_}
 use lib.Dec.{leb}
 use borrow.Author.Needs.{needs}
@@ -26,11 +26,11 @@ enum-told-5 c = search needs
 
 returns : tie.Need-returns
 unfolding unitLengthOk
-returns c = cc
+returns c = rw (c .enum-told .given .1) refl
 
 returns-2 : tie.Need-returns-2
 unfolding unitLengthOk
-returns-2 c = cc
+returns-2 c = rw (c .enum-told2 .given .1) refl
 
 returns-3 : tie.Need-returns-3
 unfolding unitLengthOk
@@ -47,11 +47,11 @@ returns-4 c =
 
 returns-5 : tie.Need-returns-5
 unfolding unitLengthOk
-returns-5 c = cc
+returns-5 c = rw (c .enum-told4 .given .1) refl
 
 returns-6 : tie.Need-returns-6
 unfolding unitLengthOk
-returns-6 c = cc
+returns-6 c = rw (c .enum-told5 .given .1) refl
 
 pub unit-length-ok-spec : {M : Type 1} → statement M
 unit-length-ok-spec =

@@ -1,6 +1,6 @@
 -- Dec under the expanded key. Assumes nothing.
 use mathlib.Core.Path.{ap₂, _∙_}
-use Rattle.aes.specs.Cipher.{Dec}
+use Rattle.cipher.specs.Cipher.{Dec}
 use Rattle.aes.specs.Calls.{decrypted}
 use borrow.Author.Needs.{needs}
 use Rattle.aes.proofs.calls.decrypt.Statement.{statement}

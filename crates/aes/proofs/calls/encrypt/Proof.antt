@@ -1,6 +1,6 @@
 -- Enc under the expanded key. Assumes nothing.
 use mathlib.Core.Path.{ap₂, _∙_}
-use Rattle.aes.specs.Cipher.{Enc}
+use Rattle.cipher.specs.Cipher.{Enc}
 use Rattle.aes.specs.Calls.{encrypted}
 use borrow.Author.Needs.{needs}
 use Rattle.aes.proofs.calls.encrypt.Statement.{statement}

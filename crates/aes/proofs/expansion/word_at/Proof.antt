@@ -1,7 +1,6 @@
 -- The code is the definition, but for a sum with 0. Assumes nothing.
 use native.Mathlib.Nat.{add-zero}
-use Rattle.field.specs.Rows.{four}
-use Rattle.aes.specs.KeyExpansion.{wordAt}
+use Rattle.field.specs.Rows.{four, wordAt}
 use borrow.Author.Needs.{needs}
 use Rattle.aes.proofs.expansion.word_at.Statement.{statement}
 use Rattle.aes.proofs.expansion.word_at.Tie as tie

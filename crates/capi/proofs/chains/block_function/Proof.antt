@@ -13,11 +13,11 @@ encrypt-block-requires c κs = search needs
 
 returns : tie.Need-returns
 unfolding blockFunction
-returns c = cc
+returns c = rw (c .before .if1 .taken) (c .decrypt-block .ensures)
 
 returns-2 : tie.Need-returns-2
 unfolding blockFunction
-returns-2 c = cc
+returns-2 c = rw (c .before .if1 .left) (c .encrypt-block .ensures)
 
 pub block-function-spec : {M : Type 1} → statement M
 block-function-spec =

@@ -1,7 +1,7 @@
 -- `capi::chains::chain` meets its contract. The loop's invariant: after i turns the block is the chain's after i applications.
 -- Assumes nothing.
 use Prim.Native.Nat.{_≤_, _-_}
-use mathlib.Core.Path.{_≡_, refl}
+use mathlib.Core.Path.{_≡_, refl, sym}
 use native.Mathlib.Omega.{arith}
 use native.Mathlib.Numerals.{add-one}
 use Rattle.capi.specs.Chains.{chainOf}
@@ -30,10 +30,10 @@ loop-less c = omega arith
 
 loop-again : tie.Need-loop-again Inv-loop μ-loop
 unfolding chainOf
-loop-again c = (omega arith, rw add-one (cc))
+loop-again c = (omega arith, rw (add-one, sym (c .before .before .loop .inv .1)) (c .block-function .ensures))
 
 returns : tie.Need-returns Inv-loop μ-loop
-returns c = let ended : c .before .loop .i ≡ c .before .before .args .count = omega arith in cc
+returns c = let ended : c .before .loop .i ≡ c .before .before .args .count = omega arith in rw (sym ended) (c .before .loop .inv .1)
 
 pub chain-spec : {M : Type 1} → statement M
 chain-spec =

@@ -1,4 +1,5 @@
 -- `capi::sessions::decrypts` meets its contract, direction by direction. Assumes nothing.
+use mathlib.Core.Path.{refl}
 use borrow.Author.Needs.{needs}
 use Rattle.capi.specs.Held.{directionDecrypts}
 use Rattle.capi.proofs.sessions.decrypts.Statement.{statement}
@@ -12,11 +13,11 @@ enum-told-2 c = search needs
 
 returns : tie.Need-returns
 unfolding directionDecrypts
-returns c = cc
+returns c = rw (c .enum-told .given .1) refl
 
 returns-2 : tie.Need-returns-2
 unfolding directionDecrypts
-returns-2 c = cc
+returns-2 c = rw (c .enum-told2 .given .1) refl
 
 pub decrypts-spec : {M : Type 1} → statement M
 decrypts-spec = tie.close (tie.spec enum-told enum-told-2 returns returns-2)

@@ -3,14 +3,15 @@
 use mathlib.Core.Path.{refl}
 use native.Mathlib.Omega.{arith}
 use borrow.Author.Needs.{needs}
-use Rattle.modes.specs.Sessions.{refusedSession}
 use Rattle.capi.proofs.HeldLaws.{not-opened, opened}
 use Rattle.capi.proofs.sessions.open_by_number.Statement.{statement}
 use Rattle.capi.proofs.sessions.open_by_number.Tie as tie
 
+refused-requires : tie.Need-refused-requires
+refused-requires c κs = search needs
+
 returns : tie.Need-returns
-unfolding refusedSession
-returns c = not-opened _ _ _ _ _ (omega arith) refl refl
+returns c = not-opened _ _ _ _ _ (omega arith) refl (c .refused .ensures)
 
 mode-of-requires : tie.Need-mode-of-requires
 mode-of-requires c κs = search needs
@@ -27,4 +28,4 @@ returns-2 c =
 
 pub open-by-number-spec : {M : Type 1} → statement M
 open-by-number-spec =
-    tie.close (tie.spec returns mode-of-requires direction-of-requires open-requires returns-2)
+    tie.close (tie.spec refused-requires returns mode-of-requires direction-of-requires open-requires returns-2)

@@ -1,4 +1,5 @@
 -- Each of the four calls gives an entry of the table. Assumes nothing.
+use mathlib.Core.Path.{refl}
 use Rattle.field.specs.Rows.{four}
 use borrow.Author.Needs.{needs}
 use Rattle.field.proofs.boxes.substitute_row.Statement.{statement}
@@ -30,7 +31,13 @@ substitute-requires-4 c κs = search needs
 
 returns : tie.Need-returns
 unfolding four
-returns c = cc
+returns c =
+    rw (
+      c .before .before .before .substitute .ensures,
+      c .before .before .substitute2 .ensures,
+      c .before .substitute3 .ensures,
+      c .substitute4 .ensures,
+    ) refl
 
 pub substitute-row-spec : {M : Type 1} → statement M
 substitute-row-spec =

@@ -1,4 +1,5 @@
 -- `grammar::hex::is_digit` meets its contract: a digit is in one of the two ranges. Assumes nothing.
+use mathlib.Core.Path.{refl, sym, _∙_}
 use borrow.Author.Needs.{needs}
 use Rattle.grammar.specs.Texts.{isHex}
 use Rattle.grammar.proofs.hex.is_digit.Statement.{statement}
@@ -12,11 +13,11 @@ between-requires-2 c κs = search needs
 
 returns : tie.Need-returns
 unfolding isHex
-returns c = cc
+returns c = rw (sym (c .before .between .ensures) ∙ c .if1 .taken) refl
 
 returns-2 : tie.Need-returns-2
 unfolding isHex
-returns-2 c = cc
+returns-2 c = rw (sym (c .before .before .between .ensures) ∙ c .before .if1 .left) (c .between2 .ensures)
 
 pub is-digit-spec : {M : Type 1} → statement M
 is-digit-spec = tie.close (tie.spec between-requires between-requires-2 returns returns-2)

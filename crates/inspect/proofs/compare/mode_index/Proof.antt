@@ -1,4 +1,5 @@
 -- `inspect::compare::mode_index` meets its contract. Assumes nothing.
+use mathlib.Core.Path.{refl}
 use Rattle.inspect.specs.Alike.{modeIndex}
 use borrow.Author.Needs.{needs}
 use Rattle.inspect.proofs.compare.mode_index.Statement.{statement}
@@ -21,23 +22,23 @@ enum-told-5 c = search needs
 
 returns : tie.Need-returns
 unfolding modeIndex
-returns c = cc
+returns c = rw (c .enum-told .given .1) refl
 
 returns-2 : tie.Need-returns-2
 unfolding modeIndex
-returns-2 c = cc
+returns-2 c = rw (c .enum-told2 .given .1) refl
 
 returns-3 : tie.Need-returns-3
 unfolding modeIndex
-returns-3 c = cc
+returns-3 c = rw (c .enum-told3 .given .1) refl
 
 returns-4 : tie.Need-returns-4
 unfolding modeIndex
-returns-4 c = cc
+returns-4 c = rw (c .enum-told4 .given .1) refl
 
 returns-5 : tie.Need-returns-5
 unfolding modeIndex
-returns-5 c = cc
+returns-5 c = rw (c .enum-told5 .given .1) refl
 
 pub mode-index-spec : {M : Type 1} → statement M
 mode-index-spec =

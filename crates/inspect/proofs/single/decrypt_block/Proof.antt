@@ -10,7 +10,7 @@ use Rattle.bits.specs.Texts.{bits}
 use Rattle.bits.specs.Blocks.{Block}
 use Rattle.bits.proofs.Owned.{arrays}
 use Rattle.aes.specs.Calls.{keyOk}
-use Rattle.modes.specs.Questions.{roomOk}
+use Rattle.questions.specs.Questions.{roomOk}
 use Rattle.modes.specs.Sessions.{written}
 use Rattle.modes.proofs.AnswerLaws.{key-no, key-yes}
 use Rattle.inspect.proofs.NumberLaws.{NeighbourTaken, neighbour-taken, number-1, number-early, number-8, number-0}

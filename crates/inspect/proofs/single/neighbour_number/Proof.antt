@@ -1,7 +1,7 @@
 -- `inspect::single::neighbour_number` meets its contract: each test is a question's. Assumes nothing.
 use mathlib.Core.Path.{sym, _∙_}
 use borrow.Author.Tests.{eq-eqb, ne-eqb, not-true, not-false}
-use Rattle.modes.specs.Questions.{ask, ivOk}
+use Rattle.questions.specs.Questions.{ask, ivOk}
 use Rattle.inspect.specs.Single.{neighbourQuestions}
 use borrow.Author.Needs.{needs}
 use Rattle.inspect.proofs.single.neighbour_number.Statement.{statement}

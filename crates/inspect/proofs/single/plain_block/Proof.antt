@@ -7,7 +7,7 @@ use lib.ListN.{length, take, drop}
 use Rattle.bits.specs.Texts.{bits, packTo}
 use Rattle.bits.specs.Xor.{xorBytes}
 use Rattle.bits.specs.Blocks.{Bytes, Block}
-use Rattle.aes.specs.Cipher.{Dec}
+use Rattle.cipher.specs.Cipher.{Dec}
 use Rattle.inspect.specs.Single.{neighbourOf}
 use Rattle.inspect.proofs.NumberLaws.{NeighbourTaken, neighbour-taken, iv-length, block-there}
 use Rattle.inspect.proofs.NeighbourLaws.{answer-taken, neighbour-is, window-at, window-whole}

@@ -1,7 +1,7 @@
 -- What was prepared runs the mode's block function under the session's rounds and round keys. Assumes nothing.
 use Rattle.bits.specs.Blocks.{Bytes}
 use Rattle.bits.proofs.Owned.{arrays}
-use Rattle.modes.proofs.TurnLaws.{runs-prepared}
+use Rattle.units.proofs.TurnLaws.{runs-prepared}
 use borrow.Author.Needs.{needs}
 use Rattle.modes.proofs.work.work.Statement.{statement}
 use Rattle.modes.proofs.work.work.Tie as tie

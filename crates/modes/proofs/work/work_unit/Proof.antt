@@ -1,11 +1,11 @@
 -- The unit stands in the part of the input that is handed on, the turn works it, and its bits are put where they belong.
 -- Assumes nothing.
-use Prim.Native.Nat.{_*_, _/_, _%_, _-_}
-use mathlib.Core.Path.{_≡_, ap, _∙_}
+use Prim.Native.Nat.{_*_, _/_, _%_}
+use mathlib.Core.Path.{ap, _∙_}
 use native.Mathlib.Omega.{arith}
-use lib.ListN.{length, take, drop}
+use lib.ListN.{take, drop}
 use Rattle.bits.specs.Texts.{bits, packTo}
-use Rattle.modes.specs.Turns.{unitSizeOk}
+use Rattle.units.specs.Turns.{unitSizeOk}
 use Rattle.modes.proofs.WorkLaws.{part-all, unit-inside, unit-size-ok, unit-fits, unit-worked}
 use borrow.Author.Needs.{needs}
 use Rattle.modes.proofs.work.work_unit.Statement.{statement}

@@ -1,15 +1,14 @@
 -- The invariant: t units are through (`WorkLaws`). The measure is the units left. Assumes nothing.
-use Prim.Native.Nat.{ℕ, _-_, _≤_, _<_, zero-le}
-use mathlib.Core.Path.{_≡_, sym, ap, _∙_}
-use mathlib.Core.List.{List}
+use Prim.Native.Nat.{_-_, _≤_, zero-le}
+use mathlib.Core.Path.{_≡_, sym}
 use native.Mathlib.Numerals.{add-one}
 use native.Mathlib.Omega.{arith}
 use lib.ListN.{length}
 use Rattle.bits.specs.Blocks.{Block}
 use Rattle.bits.proofs.Owned.{arrays}
 use Rattle.rules.specs.Rules.{unitsIn}
-use Rattle.rules.proofs.Taken.{unit-bounds}
 use Rattle.modes.proofs.WorkLaws.{Through, none-through, through-length, still-workable, one-through, all-through}
+use borrow.Author.Needs.{needs}
 use Rattle.modes.proofs.work.work_units.Statement.{statement}
 use Rattle.modes.proofs.work.work_units.Tie as tie
 
@@ -33,7 +32,7 @@ same-size : (l : tie.At-loop Inv-loop μ-loop) → length (l .loop .out) ≡ len
 same-size l = through-length (entry l .pre .0) (entry l .pre .1) (register-is (entry l)) (l .loop .t) (rw (counted l) at (l .loop .inv .1)) (l .loop .inv .0)
 
 units-in-requires : tie.Need-units-in-requires Inv-loop μ-loop
-units-in-requires c κs = let p = c .before .before .pre .0 in let b = unit-bounds _ _ (p .unit-length) in (b .0, b .1, p .small)
+units-in-requires c κs = search needs
 
 loop-holds : tie.Need-loop-holds Inv-loop μ-loop
 loop-holds c = let s = c .before .before .before in (none-through (s .pre .0) (s .pre .1) (register-is s), zero-le)

@@ -4,8 +4,8 @@ use mathlib.Core.Path.{_≡_, sym, ap, _∙_}
 use mathlib.Core.Bool.{true}
 use borrow.Author.Tests.{not-true, not-false}
 use Rattle.bits.specs.Texts.{bytesFor}
-use Rattle.modes.specs.Questions.{ask, bitsOk, roomOk}
-use Rattle.modes.proofs.QuestionLaws.{bits-small}
+use Rattle.questions.specs.Questions.{ask, bitsOk, roomOk}
+use Rattle.questions.proofs.QuestionLaws.{bits-small}
 use Rattle.padding.specs.Padding.{paddedLength, maxPadBits, padQuestions}
 use Rattle.padding.proofs.PadLaws.{bytes-padded}
 use borrow.Author.Needs.{needs}

@@ -5,8 +5,8 @@ use Prim.Native.Nat.{ℕ, _-_}
 use native.Mathlib.Omega.{arith}
 use borrow.Author.Tests.{not-true, not-false}
 use lib.ListN.{length}
-use Rattle.modes.specs.Questions.{bitsOk, maxBits}
-use Rattle.modes.proofs.QuestionLaws.{bits-small, bits-there}
+use Rattle.questions.specs.Questions.{bitsOk, maxBits}
+use Rattle.questions.proofs.QuestionLaws.{bits-small, bits-there}
 use Rattle.padding.specs.Padding.{wholeBlocks}
 use Rattle.padding.proofs.NumberLaws.{no-bits, broken-block, whole-blocks}
 use Rattle.padding.proofs.AnswerLaws.{number-6, number-7, number-10, number-0, unpad-refused, unpad-accepted}

@@ -4,8 +4,8 @@ use mathlib.Core.List.{List}
 use Prim.Native.Nat.{ℕ, _-_, _≤_}
 use native.Mathlib.Omega.{arith}
 use borrow.Author.Needs.{needs}
-use Rattle.aes.specs.State.{fromBlock}
-use Rattle.aes.proofs.RoundLaws.{rounds-bounds}
+use Rattle.cipher.specs.State.{fromBlock}
+use Rattle.cipher.proofs.RoundLaws.{rounds-bounds}
 use Rattle.prepared.specs.Words.{ofWords}
 use Rattle.prepared.specs.Rounds.{addWords, roundsBy, arranged}
 use Rattle.prepared.proofs.RunLaws.{round-more, rounds-done}

@@ -3,7 +3,7 @@ use mathlib.Core.Path.{_≡_, refl}
 use Prim.Native.Nat.{_-_, _≤_}
 use native.Mathlib.Omega.{arith}
 use lib.ListN.{length, length-set}
-use Rattle.aes.specs.KeyExpansion.{wordAt}
+use Rattle.field.specs.Rows.{wordAt}
 use Rattle.prepared.specs.Prepared.{Holds}
 use Rattle.prepared.proofs.FillLaws.{held-none, held-next, held-all}
 use Rattle.prepared.proofs.keys.forward_words.Statement.{statement}

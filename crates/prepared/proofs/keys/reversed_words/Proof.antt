@@ -3,7 +3,7 @@ use mathlib.Core.Path.{_≡_, refl}
 use Prim.Native.Nat.{_+_, _-_, _*_, _≤_}
 use native.Mathlib.Omega.{arith}
 use lib.ListN.{length, length-set}
-use Rattle.aes.proofs.RoundLaws.{rounds-bounds}
+use Rattle.cipher.proofs.RoundLaws.{rounds-bounds}
 use Rattle.prepared.specs.Prepared.{Holds, reversedRule}
 use Rattle.prepared.proofs.FillLaws.{held-none, held-next, held-all}
 use Rattle.prepared.proofs.keys.reversed_words.Statement.{statement}

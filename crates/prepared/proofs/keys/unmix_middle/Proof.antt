@@ -4,7 +4,7 @@ use Prim.Native.Nat.{_-_, _*_, _≤_}
 use native.Mathlib.Omega.{arith}
 use lib.ListN.{length, length-set}
 use borrow.Author.Needs.{needs}
-use Rattle.aes.proofs.RoundLaws.{rounds-bounds}
+use Rattle.cipher.proofs.RoundLaws.{rounds-bounds}
 use Rattle.prepared.specs.Prepared.{Unmixed}
 use Rattle.prepared.proofs.FillLaws.{unmixed-none, unmixed-next, unmixed-all}
 use Rattle.prepared.proofs.keys.unmix_middle.Statement.{statement}

@@ -10,7 +10,7 @@ use Rattle.bits.proofs.Texts.{length-bits, length-pack}
 use Rattle.bits.proofs.Owned.{arrays}
 use Rattle.rules.proofs.Taken.{unit-bounds}
 use Rattle.modes.specs.Sessions.{Arrays, feedNumber, fedText, sessionText, sessionRegister}
-use Rattle.modes.proofs.QuestionLaws.{FeedTaken, feed-taken}
+use Rattle.questions.proofs.QuestionLaws.{FeedTaken, feed-taken}
 use Rattle.modes.proofs.AnswerLaws.{feed-refused, feed-accepted, part-written, moved}
 use Rattle.modes.proofs.SessionLaws.{Ready, text-length}
 use Rattle.modes.proofs.WorkLaws.{part-all}
@@ -77,10 +77,7 @@ abbrev asked : tie.After-slice-known2 → tie.Else1
 asked c = c .before .before .before .before .before
 
 units-in-requires : tie.Need-units-in-requires
-units-in-requires c κs =
-    let q = answers (asked c) in
-    let b = unit-bounds _ _ (q .unit) in
-    omega (arith, b, q .limit)
+units-in-requires c κs = search needs
 
 cast-done : tie.Need-cast-done
 cast-done c = let q = answers (asked (c .before)) in omega (arith, q .counted, c .units-in .ensures)

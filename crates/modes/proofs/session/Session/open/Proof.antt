@@ -5,7 +5,7 @@ use native.Mathlib.Omega.{arith}
 use borrow.Author.Tests.{not-true, not-false}
 use Rattle.bits.specs.Blocks.{Bytes}
 use Rattle.aes.specs.Calls.{keyOk}
-use Rattle.modes.specs.Questions.{ivOk}
+use Rattle.questions.specs.Questions.{ivOk}
 use Rattle.modes.specs.Sessions.{openedSession}
 use Rattle.modes.proofs.AnswerLaws.{key-no, key-yes, refused-1, refused-2, refused-3, accepted-opening}
 use Rattle.modes.proofs.WorkLaws.{start-window}

@@ -1,0 +1,3 @@
+-- Laws about the definitions of specs/, a file to a subject.
+pub mod TestLaws
+pub mod QuestionLaws

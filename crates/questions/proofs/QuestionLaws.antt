@@ -1,0 +1,115 @@
+-- What the first 'no' tells: the number is its own, and at 0 every question was answered 'yes'. Assumes nothing.
+use Prim.Native.Nat.{ℕ, _+_, _-_, _*_, _≤_, _<_}
+use mathlib.Core.Path.{_≡_, refl}
+use mathlib.Core.Bool.{Bool, true, false, cond, _&&_}
+use mathlib.Core.List.{List, [], _∷_}
+use native.Mathlib.Omega.{arith}
+use borrow.Author.Tests.{leb-true, not-true}
+use lib.Dec.{leb}
+use Rattle.bits.specs.Texts.{bytesFor}
+use Rattle.cipher.specs.Cipher.{roundsOk}
+use Rattle.aes.specs.Calls.{keyOk}
+use Rattle.rules.specs.declared.Mode.{Mode}
+use Rattle.rules.specs.Lengths.{unitLengthOk, wholeUnits}
+use Rattle.rules.specs.Rules.{unitsIn}
+use Rattle.questions.specs.Questions.{Question, ask, ivOk, sessionOk, bitsOk, roomOk, unitsOk, maxBits, maxUnits, openQuestions, feedQuestions}
+use Rattle.questions.specs.Promises.{FirstNo, all-yes, here, later, NumberIsFirstNo}
+
+pub number-first-no : NumberIsFirstNo
+unfolding NumberIsFirstNo ask
+number-first-no [] = all-yes
+number-first-no (q ∷ qs) = by-answer (number-first-no qs) (q .yes) refl
+  where
+    by-answer : FirstNo qs (ask qs) → (b : Bool) → q .yes ≡ b → FirstNo (q ∷ qs) (cond b (ask qs) (q .number))
+    by-answer rest true e = later e rest
+    by-answer rest false e = here e
+
+-- ---- at 0, every answer is 'yes'
+
+pub first-yes : (q : Question) (qs : List Question) → 0 < q .number → ask (q ∷ qs) ≡ 0 → (q .yes ≡ true) × (ask qs ≡ 0)
+unfolding ask
+first-yes q qs numbered e = by-answer (q .yes) refl e
+  where
+    by-answer : (b : Bool) → q .yes ≡ b → cond b (ask qs) (q .number) ≡ 0 → (q .yes ≡ true) × (ask qs ≡ 0)
+    by-answer true answer rest = (answer, rest)
+    by-answer false answer rest = absurd (omega arith)
+
+pub both-true : (a b : Bool) → (a && b) ≡ true → (a ≡ true) × (b ≡ true)
+both-true true b h = (refl, h)
+both-true false b h = (h, cc)
+
+-- ---- single answers
+
+pub session-rounds : (mode : Mode) (rounds n : ℕ) → sessionOk mode rounds n ≡ true → roundsOk rounds ≡ true
+unfolding sessionOk
+session-rounds mode rounds n e = both-true (roundsOk rounds) (unitLengthOk mode n) e .0
+
+pub session-unit : (mode : Mode) (rounds n : ℕ) → sessionOk mode rounds n ≡ true → unitLengthOk mode n ≡ true
+unfolding sessionOk
+session-unit mode rounds n e = both-true (roundsOk rounds) (unitLengthOk mode n) e .1
+
+pub bits-small : (limit bytes count : ℕ) → bitsOk limit bytes count ≡ true → count ≤ limit
+unfolding bitsOk
+bits-small limit bytes count e = leb-true count limit (both-true (leb count (8 * bytes)) (leb count limit) e .1)
+
+pub bits-there : (limit bytes count : ℕ) → bitsOk limit bytes count ≡ true → count ≤ 8 * bytes
+unfolding bitsOk
+bits-there limit bytes count e = leb-true count (8 * bytes) (both-true (leb count (8 * bytes)) (leb count limit) e .0)
+
+pub room-inside : (size place bytes : ℕ) → roomOk size place bytes ≡ true → place ≤ size
+unfolding roomOk
+room-inside size place bytes e = leb-true place size (both-true (leb place size) (leb bytes (size - place)) e .0)
+
+pub room-there : (size place bytes : ℕ) → roomOk size place bytes ≡ true → bytes ≤ size - place
+unfolding roomOk
+room-there size place bytes e = leb-true bytes (size - place) (both-true (leb place size) (leb bytes (size - place)) e .1)
+
+-- ---- all answers
+
+-- What an accepted opening was asked.
+pub record OpeningTaken (mode : Mode) (n : ℕ) (key iv : List ℕ) : Type 0 where
+  pub key-size : keyOk key ≡ true
+  pub iv-size : ivOk mode iv ≡ true
+  pub unit : unitLengthOk mode n ≡ true
+
+pub opening-taken : (mode : Mode) (n : ℕ) (key iv : List ℕ) → ask (openQuestions mode n key iv) ≡ 0 → OpeningTaken mode n key iv
+unfolding openQuestions
+opening-taken mode n key iv e1 =
+    let (q1, e2) = first-yes _ _ (omega arith) e1 in
+    let (q2, e3) = first-yes _ _ (omega arith) e2 in
+    let (q3, e4) = first-yes _ _ (omega arith) e3 in
+    record { key-size = q1; iv-size = q2; unit = q3 }
+
+-- What an accepted feed was asked.
+pub record FeedTaken (mode : Mode) (rounds n : ℕ) (closed : Bool) (units bytes count size place : ℕ) : Type 0 where
+  pub rounds-good : roundsOk rounds ≡ true
+  pub unit : unitLengthOk mode n ≡ true
+  pub not-closed : closed ≡ false
+  pub there : count ≤ 8 * bytes
+  pub limit : count ≤ maxBits
+  pub whole : wholeUnits mode n count ≡ true
+  pub inside : place ≤ size
+  pub room : bytesFor count ≤ size - place
+  pub counted : units + unitsIn n count ≤ maxUnits
+
+pub feed-taken : (mode : Mode) (rounds n : ℕ) (closed : Bool) (units bytes count size place : ℕ)
+    → ask (feedQuestions mode rounds n closed units bytes count size place) ≡ 0 → FeedTaken mode rounds n closed units bytes count size place
+unfolding feedQuestions unitsOk
+feed-taken mode rounds n closed units bytes count size place e4 =
+    let (q4, e5) = first-yes _ _ (omega arith) e4 in
+    let (q5, e6) = first-yes _ _ (omega arith) e5 in
+    let (q6, e7) = first-yes _ _ (omega arith) e6 in
+    let (q7, e8) = first-yes _ _ (omega arith) e7 in
+    let (q8, e9) = first-yes _ _ (omega arith) e8 in
+    let (q9, e10) = first-yes _ _ (omega arith) e9 in
+    record {
+      rounds-good = session-rounds mode rounds n q4;
+      unit = session-unit mode rounds n q4;
+      not-closed = not-true closed q5;
+      there = bits-there maxBits bytes count q6;
+      limit = bits-small maxBits bytes count q6;
+      whole = q7;
+      inside = room-inside size place (bytesFor count) q8;
+      room = room-there size place (bytesFor count) q8;
+      counted = leb-true _ _ q9;
+    }

@@ -1,0 +1,146 @@
+// Document 01, "Questions before work": each function answers one question, or gives the number of a call's first 'no'.
+use rules::Mode;
+ghost use mathlib.Core.Path.{_≡_};
+ghost use Prim.Native.Nat.{_<_, _≤_};
+ghost use Rattle.bits.specs.Texts.{bytesFor};
+ghost use Rattle.rules.specs.Lengths.{wholeUnits};
+ghost use Rattle.rules.specs.Rules.{unitsIn};
+ghost use Rattle.questions.specs.Questions.{ask, ivOk, sessionOk, bitsOk, roomOk, unitsOk, maxBits, feedQuestions};
+
+// The block, in bytes.
+pub const BLOCK: usize = 16;
+
+// The same in bits.
+pub const BLOCK_BITS: usize = 8 * BLOCK;
+
+// The largest feed, in bits.
+pub const MAX_BITS: usize = 524288;
+
+// The most units that a session does.
+pub const MAX_UNITS: u32 = 4294967295;
+
+// Question 2, by the IV's length.
+pub fn iv_ok(mode: Mode, iv: &[u8]) -> bool
+    ensures { λ r. ⌜ r ≡ ivOk mode (now (iv .entry)) ⌝ }
+{
+    match mode {
+        Mode::Ecb => iv.len() == 0,
+        Mode::Cbc => iv.len() == BLOCK,
+        Mode::Cfb => iv.len() == BLOCK,
+        Mode::Ofb => iv.len() == BLOCK,
+        Mode::Ctr => iv.len() == BLOCK,
+    }
+}
+
+// Question 4.
+fn session_ok(mode: Mode, rounds: usize, n: usize) -> bool
+    ensures { λ r. ⌜ r ≡ sessionOk mode rounds n ⌝ }
+{
+    if cipher::rounds_ok(rounds) {
+        rules::unit_length_ok(mode, n)
+    } else {
+        false
+    }
+}
+
+// Question 6. The bits are there where their whole bytes are, and one byte more for spare bits.
+pub fn bits_ok(limit: usize, bytes: usize, bits: usize) -> bool
+    ensures { λ r. ⌜ r ≡ bitsOk limit bytes bits ⌝ }
+{
+    if bits > limit {
+        return false;
+    }
+    if bits % 8 == 0 {
+        return bits / 8 <= bytes;
+    }
+    bits / 8 < bytes
+}
+
+// Question 7.
+fn whole_units(mode: Mode, n: usize, bits: usize) -> bool
+    requires { ⌜ 0 < n ⌝ }
+    ensures { λ r. ⌜ r ≡ wholeUnits mode n bits ⌝ }
+{
+    match mode {
+        Mode::Ecb => bits % n == 0,
+        Mode::Cbc => bits % n == 0,
+        Mode::Cfb => bits % n == 0,
+        Mode::Ofb => true,
+        Mode::Ctr => true,
+    }
+}
+
+// Question 8.
+pub fn room_ok(size: usize, place: usize, bytes: usize) -> bool
+    ensures { λ r. ⌜ r ≡ roomOk size place bytes ⌝ }
+{
+    if place <= size {
+        bytes <= size - place
+    } else {
+        false
+    }
+}
+
+// Question 9.
+fn units_ok(done: u32, new: usize) -> bool
+    ensures { λ r. ⌜ r ≡ unitsOk done new ⌝ }
+{
+    new <= (MAX_UNITS - done) as usize
+}
+
+// How many bytes so many bits need, rounded up.
+fn bytes_for(bits: usize) -> usize
+    requires { ⌜ bits ≤ maxBits ⌝ }
+    ensures { λ r. ⌜ r ≡ bytesFor bits ⌝ }
+{
+    (bits + 7) / 8
+}
+
+// How many units so many bits have, a short last one included.
+pub fn units_in(n: usize, bits: usize) -> usize
+    ensures { λ r. ⌜ r ≡ unitsIn n bits ⌝ }
+{
+    if n == 0 {
+        return 0;
+    }
+    let whole = bits / n;
+    if bits % n == 0 {
+        return whole;
+    }
+    whole + 1
+}
+
+// A feed's number, questions 4 to 9 in order.
+pub fn feed_number(
+    mode: Mode,
+    rounds: usize,
+    n: usize,
+    closed: bool,
+    units: u32,
+    bytes: usize,
+    bits: usize,
+    size: usize,
+    place: usize,
+) -> u8
+    ensures { λ r. ⌜ r ≡ ask (feedQuestions mode rounds n closed units bytes bits size place) ⌝ }
+{
+    if !session_ok(mode, rounds, n) {
+        return 4;
+    }
+    if closed {
+        return 5;
+    }
+    if !bits_ok(MAX_BITS, bytes, bits) {
+        return 6;
+    }
+    if !whole_units(mode, n, bits) {
+        return 7;
+    }
+    if !room_ok(size, place, bytes_for(bits)) {
+        return 8;
+    }
+    if !units_ok(units, units_in(n, bits)) {
+        return 9;
+    }
+    0
+}

@@ -1,0 +1,144 @@
+-- One unit, left-aligned in a block: what the block operations of each mode's code give is what the unit rules say. Assumes nothing.
+use mathlib.Core.Path.{_≡_, refl, sym, ap, _∙_}
+use mathlib.Core.Bool.{Bool, true}
+use mathlib.Core.Logic.{_⊎_, inl, inr}
+use borrow.Author.Tests.{eqb-true, leb-true}
+use mathlib.Core.List.{List, _++_}
+use Prim.Native.Nat.{ℕ, _≤_}
+use native.Mathlib.Nat.{min-eq-left}
+use native.Mathlib.Omega.{arith}
+use lib.ListN.{length, take, drop, length-take, length-drop, length-append}
+use lib.Seq.{take-all}
+use Rattle.bits.specs.Xor.{xorBytes}
+use Rattle.bits.specs.Texts.{bits, pack, packTo, bytesFor, xorBits, shiftIn}
+use Rattle.bits.specs.Blocks.{Block}
+use Rattle.bits.specs.Counter.{increment}
+use Rattle.bits.proofs.Texts.{bits-block, block-pack-bits, pack-block}
+use Rattle.bits.proofs.Xors.{bits-xorBytes, take-xorBits, xorBytes-block}
+use Rattle.cipher.specs.Cipher.{Enc, Dec}
+use Rattle.prepared.specs.Rounds.{blockBy}
+use Rattle.prepared.specs.Prepared.{PreparedFor}
+use Rattle.rules.specs.declared.Mode.{Mode}
+use Rattle.rules.specs.declared.Mode.the-variants.{Ecb, Cbc, Cfb, Ofb, Ctr}
+use Rattle.rules.specs.declared.Direction.the-variants.{Encrypt, Decrypt}
+use Rattle.rules.specs.declared.Direction.{Direction}
+use Rattle.rules.specs.Rules.{msb, mask, next, cipher, plain, outOf, nextOf}
+use Rattle.rules.proofs.Units.{UnitLength}
+use Rattle.units.specs.Turns.{decrypting, runsDec, Runs, Turned, unitSizeOk}
+
+-- ---- a whole block
+
+whole : {b : List ℕ} → Block b → take 128 (bits b) ≡ bits b
+whole {b} h = take-all 128 (bits b) (omega (arith, bits-block h))
+
+packed : {b : List ℕ} → Block b → pack (take 128 (bits b)) ≡ b
+packed h = ap pack (whole h) ∙ block-pack-bits h
+
+-- ---- a unit of so many bits
+
+unit-size : {b : List ℕ} (size : ℕ) → Block b → size ≤ 128 → length (take size (bits b)) ≡ size
+unit-size {b} size h le = length-take size (bits b) ∙ min-eq-left (omega (arith, bits-block h))
+
+masked : {unit block : List ℕ} (size : ℕ) → Block unit → Block block → size ≤ 128
+    → take size (bits (xorBytes unit block)) ≡ mask (take size (bits unit)) block
+unfolding mask msb
+masked {unit} {block} size hu hb le =
+    ap (take size) (bits-xorBytes unit block (hu .bytes) (hb .bytes)) ∙ take-xorBits size (bits unit) (bits block)
+    ∙ ap (λ k. xorBits (take size (bits unit)) (take k (bits block))) (sym (unit-size size hu le))
+
+shifted : {register segment : List ℕ} (size : ℕ) → Block register → Block segment → size ≤ 128
+    → packTo 16 (drop size (bits register) ++ take size (bits segment)) ≡ pack (shiftIn (bits register) (take size (bits segment)))
+unfolding pack shiftIn bytesFor
+shifted {register} {segment} size hr hs le =
+    let s : length (take size (bits segment)) ≡ size = unit-size size hs le in
+    let f : length (drop size (bits register) ++ take size (bits segment)) ≡ 128 = length-append (drop size (bits register)) (take size (bits segment)) ∙ simp length-drop (omega (arith, bits-block hr)) in
+    sym (ap (λ k. pack (drop k (bits register) ++ take size (bits segment))) s ∙ ap (λ k. packTo (bytesFor k) (drop size (bits register) ++ take size (bits segment))) f ∙ refl)
+
+-- ---- the modes
+
+module _ (f : List ℕ → List ℕ) {register unit : List ℕ} (hr : Block register) (hu : Block unit) where
+  pub ecb-turned : (dir : Direction) {out : List ℕ} → Block out → out ≡ f unit → Turned f Ecb dir register unit 128 out register
+  unfolding outOf nextOf cipher plain next
+  ecb-turned Encrypt ho e = record { out-bits = whole ho ∙ ap bits (e ∙ ap f (sym (packed hu))); register-after = refl }
+  ecb-turned Decrypt ho e = record { out-bits = whole ho ∙ ap bits (e ∙ ap f (sym (packed hu))); register-after = refl }
+
+  pub cbc-encrypted : {out : List ℕ} → Block out → out ≡ f (xorBytes unit register) → Turned f Cbc Encrypt register unit 128 out out
+  unfolding outOf nextOf cipher next
+  cbc-encrypted {out} ho e =
+      let same : out ≡ f (xorBytes (pack (take 128 (bits unit))) register) = e ∙ ap (λ u. f (xorBytes u register)) (sym (packed hu)) in
+      record { out-bits = whole ho ∙ ap bits same; register-after = sym (block-pack-bits ho) ∙ ap (λ b. pack (bits b)) same }
+
+  pub cbc-decrypted : {out : List ℕ} → Block out → out ≡ xorBytes (f unit) register → Turned f Cbc Decrypt register unit 128 out unit
+  unfolding outOf nextOf plain next
+  cbc-decrypted ho e =
+      record { out-bits = whole ho ∙ ap bits (e ∙ ap (λ u. xorBytes (f u) register) (sym (packed hu))); register-after = sym (packed hu) }
+
+  -- in CFB, OFB and CTR the first bits of the register's block are added
+  module _ (size : ℕ) (le : size ≤ 128) {block out : List ℕ} (hb : Block block) (e : block ≡ f register) (g : out ≡ xorBytes unit block) where
+    text : take size (bits out) ≡ mask (take size (bits unit)) (f register)
+    text = ap (λ b. take size (bits b)) g ∙ masked size hu hb le ∙ ap (mask (take size (bits unit))) e
+
+    pub cfb-encrypted : {after : List ℕ} → Block out → after ≡ packTo 16 (drop size (bits register) ++ take size (bits out)) → Turned f Cfb Encrypt register unit size out after
+    unfolding outOf nextOf cipher next
+    cfb-encrypted ho h = record { out-bits = text; register-after = h ∙ shifted size hr ho le ∙ ap (λ c. pack (shiftIn (bits register) c)) text }
+
+    pub cfb-decrypted : {after : List ℕ} → after ≡ packTo 16 (drop size (bits register) ++ take size (bits unit)) → Turned f Cfb Decrypt register unit size out after
+    unfolding outOf nextOf plain next
+    cfb-decrypted h = record { out-bits = text; register-after = h ∙ shifted size hr hu le }
+
+    pub ofb-turned : (dir : Direction) → Turned f Ofb dir register unit size out block
+    unfolding outOf nextOf cipher plain next
+    ofb-turned Encrypt = record { out-bits = text; register-after = e }
+    ofb-turned Decrypt = record { out-bits = text; register-after = e }
+
+    pub ctr-turned : (dir : Direction) {after : List ℕ} → after ≡ increment register → Turned f Ctr dir register unit size out after
+    unfolding outOf nextOf cipher plain next
+    ctr-turned Encrypt h = record { out-bits = text; register-after = h }
+    ctr-turned Decrypt h = record { out-bits = text; register-after = h }
+
+-- ---- a unit's bits, by the mode
+
+pub block-size : {mode : Mode} {size : ℕ} → unitSizeOk mode size ≡ true → (mode ≡ Ecb) ⊎ (mode ≡ Cbc) → size ≡ 128
+unfolding unitSizeOk
+block-size {size = size} h (inl e) = eqb-true size 128 (sym (ap (λ m. unitSizeOk m size) e) ∙ h)
+block-size {size = size} h (inr e) = eqb-true size 128 (sym (ap (λ m. unitSizeOk m size) e) ∙ h)
+
+pub stream-size : {mode : Mode} {size : ℕ} → unitSizeOk mode size ≡ true → (mode ≡ Cfb) ⊎ ((mode ≡ Ofb) ⊎ (mode ≡ Ctr)) → size ≤ 128
+unfolding unitSizeOk
+stream-size {size = size} h (inl e) = leb-true size 128 (sym (ap (λ m. unitSizeOk m size) e) ∙ h)
+stream-size {size = size} h (inr (inl e)) = leb-true size 128 (sym (ap (λ m. unitSizeOk m size) e) ∙ h)
+stream-size {size = size} h (inr (inr e)) = leb-true size 128 (sym (ap (λ m. unitSizeOk m size) e) ∙ h)
+
+-- ---- the one block function that a mode runs
+
+module _ {f enc dec : List ℕ → List ℕ} {r : List ℕ} (block : Block r) (u : List Bool) where
+  pub out-same : (mode : Mode) (dir : Direction) → Runs f enc dec mode dir → UnitLength mode (length u) → outOf f f mode dir r u ≡ outOf enc dec mode dir r u
+  unfolding outOf cipher plain next runsDec decrypting UnitLength
+  out-same Ecb Encrypt runs l = rw (runs .same (pack u) (pack-block u l))
+  out-same Ecb Decrypt runs l = rw (runs .same (pack u) (pack-block u l))
+  out-same Cbc Encrypt runs l = rw (runs .same (xorBytes (pack u) r) (xorBytes-block (pack-block u l) block))
+  out-same Cbc Decrypt runs l = rw (runs .same (pack u) (pack-block u l))
+  out-same Cfb Encrypt runs l = rw (runs .same r block)
+  out-same Cfb Decrypt runs l = rw (runs .same r block)
+  out-same Ofb Encrypt runs l = rw (runs .same r block)
+  out-same Ofb Decrypt runs l = rw (runs .same r block)
+  out-same Ctr Encrypt runs l = rw (runs .same r block)
+  out-same Ctr Decrypt runs l = rw (runs .same r block)
+
+  pub next-same : (mode : Mode) (dir : Direction) → Runs f enc dec mode dir → UnitLength mode (length u) → nextOf f f mode dir r u ≡ nextOf enc dec mode dir r u
+  unfolding nextOf cipher next runsDec decrypting UnitLength
+  next-same Ecb Encrypt runs l = refl
+  next-same Ecb Decrypt runs l = refl
+  next-same Cbc Encrypt runs l = rw (runs .same (xorBytes (pack u) r) (xorBytes-block (pack-block u l) block))
+  next-same Cbc Decrypt runs l = refl
+  next-same Cfb Encrypt runs l = rw (runs .same r block)
+  next-same Cfb Decrypt runs l = refl
+  next-same Ofb Encrypt runs l = rw (runs .same r block)
+  next-same Ofb Decrypt runs l = rw (runs .same r block)
+  next-same Ctr Encrypt runs l = refl
+  next-same Ctr Decrypt runs l = refl
+
+-- What was prepared runs it.
+pub runs-prepared : {dec : Bool} {mode : Mode} {dir : Direction} {rounds : ℕ} {keys table last words : List ℕ} → PreparedFor dec rounds keys table last words → dec ≡ runsDec mode dir
+    → Runs (blockBy dec rounds table last words) (Enc rounds keys) (Dec rounds keys) mode dir
+runs-prepared p e = record { same = λ b block. p .same b block ∙ rw e }

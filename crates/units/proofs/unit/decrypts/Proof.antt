@@ -1,0 +1,23 @@
+-- By the direction. Assumes nothing.
+use mathlib.Core.Path.{refl}
+use Rattle.units.specs.Turns.{decrypting}
+use borrow.Author.Needs.{needs}
+use Rattle.units.proofs.unit.decrypts.Statement.{statement}
+use Rattle.units.proofs.unit.decrypts.Tie as tie
+
+enum-told : tie.Need-enum-told
+enum-told c = search needs
+
+enum-told-2 : tie.Need-enum-told-2
+enum-told-2 c = search needs
+
+returns : tie.Need-returns
+unfolding decrypting
+returns c = rw (c .enum-told .given .1) refl
+
+returns-2 : tie.Need-returns-2
+unfolding decrypting
+returns-2 c = rw (c .enum-told2 .given .1) refl
+
+pub decrypts-spec : {M : Type 1} → statement M
+decrypts-spec = tie.close (tie.spec enum-told enum-told-2 returns returns-2)
