@@ -1,4 +1,5 @@
-/* Document 01's example, CFB with segments of 8 bits, fed in two reads. Prints 0 3b79. From the repository's top:
+/* Document 01's example, CFB with segments of 8 bits, fed in two reads. Prints 0 3b79, 2 runs: those of the
+   block cipher in both feeds. From the repository's top:
    rt staticlib capi && cc -Iinclude examples/feed.c target/staticlib/libcapi.a -o feed && ./feed */
 #include "conguraha.h"
 #include <stdio.h>
@@ -9,13 +10,16 @@ int main(void)
     const uint8_t iv[16] = {0, 1, 2, 3, 4, 5, 6, 7, 8, 9, 10, 11, 12, 13, 14, 15};
     const uint8_t text[2] = {0x6b, 0xc1};
     uint8_t out[2];
+    size_t made, runs = 0;
     struct conguraha_session session;
     uint8_t number = conguraha_session_open(&session, CONGURAHA_CFB, false, 8, key, sizeof key, iv, sizeof iv);
-    for (size_t at = 0; number == CONGURAHA_OK && at < sizeof text; at++)
-        number = conguraha_session_feed(&session, text + at, 1, 8, out, sizeof out, at);
+    for (size_t at = 0; number == CONGURAHA_OK && at < sizeof text; at++) {
+        number = conguraha_session_feed(&session, text + at, 1, 8, out, sizeof out, at, &made);
+        runs += made;
+    }
     printf("%d", number);
     if (number == CONGURAHA_OK)
-        printf(" %02x%02x", out[0], out[1]);
+        printf(" %02x%02x, %zu runs", out[0], out[1], runs);
     printf("\n");
     return 0;
 }

@@ -32,6 +32,8 @@ struct lent {
     uint32_t units;
     GUARD(before_closed);
     bool closed;
+    GUARD(before_runs);
+    size_t runs;
     GUARD(before_session);
     struct conguraha_session session;
     GUARD(before_input);
@@ -45,8 +47,8 @@ struct lent {
 static const struct {
     size_t at;
     const char *name;
-} PARTS[] = {PART(key),  PART(iv),  PART(block), PART(mode),   PART(decrypting), PART(n),     PART(rounds),
-             PART(keys), PART(reg), PART(units), PART(closed), PART(session),    PART(input), PART(out)};
+} PARTS[] = {PART(key),  PART(iv),    PART(block),  PART(mode), PART(decrypting), PART(n),     PART(rounds), PART(keys),
+             PART(reg),  PART(units), PART(closed), PART(runs), PART(session),    PART(input), PART(out)};
 
 static struct lent lent, expected;
 static int checks, failures;
@@ -221,7 +223,8 @@ static uint8_t open_fields(size_t mode, bool decrypting, size_t n, size_t key_le
 static uint8_t feed_fields(size_t input_length, size_t bits, size_t out_length, size_t place)
 {
     return conguraha_feed(lent.mode, lent.decrypting, lent.n, lent.rounds, lent.keys, lent.reg, &lent.units, &lent.closed,
-                          input_length ? lent.input : NULL, input_length, bits, out_length ? lent.out : NULL, out_length, place);
+                          input_length ? lent.input : NULL, input_length, bits, out_length ? lent.out : NULL, out_length, place,
+                          &lent.runs);
 }
 
 /* Lends the first key and the IV of the mode of that number, and opens. The round keys are those that aes_expand gives. */
@@ -256,7 +259,9 @@ static void texts(void)
             hex(expected.out + 5, decrypting ? TEXT : TEXTS[mode].cipher);
             hex(expected.reg, TEXTS[mode].reg);
             expected.units = 2;
+            expected.runs = 2;
             check("feed", mode, answer, CONGURAHA_OK);
+            expected.runs = 0;
             check("feed, of nothing", mode, feed_fields(0, 0, 0, 0), CONGURAHA_OK);
             check("feed, at the end", mode, feed_fields(1, 0, 37, 37), CONGURAHA_OK);
         }
@@ -275,6 +280,7 @@ static void refused_opening(size_t mode, size_t n, size_t key_length, size_t iv_
     expected.units = 0;
     expected.closed = true;
     check("open, refused", mode, answer, wanted);
+    expected.runs = 0;
     check("feed of a refused session", mode, feed_fields(16, 128, 16, 0), CONGURAHA_NOT_OPENED);
 }
 
@@ -299,10 +305,12 @@ static void refused_openings(void)
     }
 }
 
-/* Nothing that is lent changes. */
+/* Nothing that is lent changes but the runs, which are 0. */
 static void refused_feed(size_t input_length, size_t bits, size_t out_length, size_t place, unsigned wanted)
 {
+    lent.runs = 7;
     as_lent();
+    expected.runs = 0;
     check("feed, refused", bits, feed_fields(input_length, bits, out_length, place), wanted);
 }
 
@@ -348,12 +356,15 @@ static void edges(void)
     for (size_t at = 0; at < most; at += 16)
         hex(expected.out + at, "7df76b0c1ab899b33e42f047b91b546f");
     expected.units = CONGURAHA_MAX_BITS / 128;
+    expected.runs = CONGURAHA_MAX_BITS / 128;
     check("feed, the largest", CONGURAHA_MAX_BITS, answer, CONGURAHA_OK);
 
     lent.units = expected.units = CONGURAHA_MAX_UNITS - 1;
     answer = feed_fields(16, 128, 16, 0);
     expected.units = CONGURAHA_MAX_UNITS;
+    expected.runs = 1;
     check("feed, the last unit", 128, answer, CONGURAHA_OK);
+    expected.runs = 0;
     check("feed, no unit more", 128, feed_fields(16, 128, 16, 0), CONGURAHA_UNIT_LIMIT);
 
     opened(CONGURAHA_CTR, true, 128);
@@ -364,7 +375,9 @@ static void edges(void)
     hex(expected.reg, "f0f1f2f3f4f5f6f7f8f9fafbfcfdff00");
     expected.units = 1;
     expected.closed = true;
+    expected.runs = 1;
     check("feed, of a part of a block", 5, answer, CONGURAHA_OK);
+    expected.runs = 0;
     check("feed, closed", 0, feed_fields(0, 0, 0, 0), CONGURAHA_CLOSED);
 }
 
@@ -385,12 +398,13 @@ static void pieces(void)
         memcpy(expected.session.reg, lent.reg, sizeof lent.reg);
         check("session_open", mode, answer, CONGURAHA_OK);
         copy = lent.session;
-        answer = conguraha_session_feed(&lent.session, lent.input, 32, 256, lent.out, 32, 0);
+        answer = conguraha_session_feed(&lent.session, lent.input, 32, 256, lent.out, 32, 0, &lent.runs);
         hex(expected.out, TEXTS[mode].cipher);
         hex(expected.session.reg, TEXTS[mode].reg);
         expected.session.units = 2;
+        expected.runs = 2;
         check("session_feed", mode, answer, CONGURAHA_OK);
-        answer = conguraha_session_feed(&copy, lent.input, 32, 256, lent.out, 64, 32);
+        answer = conguraha_session_feed(&copy, lent.input, 32, 256, lent.out, 64, 32, &lent.runs);
         hex(expected.out + 32, TEXTS[mode].cipher);
         check("session_feed, a copy", mode, answer, CONGURAHA_OK);
     }
@@ -402,7 +416,8 @@ static void pieces(void)
     check("session_open, refused", 258, answer, CONGURAHA_NO_MODE);
     memset(&lent.session, 0, sizeof lent.session);
     as_lent();
-    answer = conguraha_session_feed(&lent.session, lent.input, 16, 128, lent.out, 16, 0);
+    answer = conguraha_session_feed(&lent.session, lent.input, 16, 128, lent.out, 16, 0, &lent.runs);
+    expected.runs = 0;
     check("session_feed, of zero bytes", 0, answer, CONGURAHA_NOT_OPENED);
 }
 

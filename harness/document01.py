@@ -1,9 +1,14 @@
-# Document 01 in Python, for the files `stdout` of the programs that run calls at their edges. It shares nothing with the crates:
-# AES is polynomial arithmetic on integers, a text is a string of bits, a session is a dictionary.
+# Document 01, and the requests that changed it, in Python, for the files `stdout` of the programs that run calls at their
+# edges. It shares nothing with the crates: AES is polynomial arithmetic on integers, a text is a string of bits, a session is a
+# dictionary.
 
 # the largest feed in bits, and the most units of a session (questions 6 and 9)
 MAX_BITS = 524288
 MAX_UNITS = 4294967295
+
+# how often the block cipher was run
+RUNS = 0
+
 
 # FIPS 197
 
@@ -68,6 +73,8 @@ def add(a, b):
 
 
 def encrypt(key, block):
+    global RUNS
+    RUNS += 1
     keys = schedule(key)
     s = add(block, keys[0])
     for t in range(1, len(keys)):
@@ -79,6 +86,8 @@ def encrypt(key, block):
 
 
 def decrypt(key, block):
+    global RUNS
+    RUNS += 1
     keys = schedule(key)
     s = add(block, keys[-1])
     for t in range(len(keys) - 2, -1, -1):
@@ -147,26 +156,53 @@ def written(out, place, text):
     return out[:place] + pack(text) + out[place + (len(text) + 7) // 8:]
 
 
-def feed(s, data, count, out, place):
+def units_of(n, count):
+    return (count + n - 1) // n
+
+
+def part_unit(mode, n, count):
+    return mode in ('ECB', 'CBC', 'CFB') and count % n
+
+
+def feed_number(s, length, count, size, place):
     n = s['n']
     if len(s['key']) not in (16, 24, 32) or not length_ok(s['mode'], n):
-        return 4, s, out
+        return 4
     if s['closed']:
-        return 5, s, out
-    if count > min(8 * len(data), MAX_BITS):
-        return 6, s, out
-    if s['mode'] in ('ECB', 'CBC', 'CFB') and count % n:
-        return 7, s, out
-    if not room(count, len(out), place):
-        return 8, s, out
-    new = (count + n - 1) // n
-    if s['units'] + new > MAX_UNITS:
-        return 9, s, out
+        return 5
+    if count > min(8 * length, MAX_BITS):
+        return 6
+    if part_unit(s['mode'], n, count):
+        return 7
+    if not room(count, size, place):
+        return 8
+    return 9 if s['units'] + units_of(n, count) > MAX_UNITS else 0
+
+
+# the number, the session, the output and the runs of the block cipher
+def feed(s, data, count, out, place):
+    n, before = s['n'], RUNS
+    number = feed_number(s, len(data), count, len(out), place)
+    if number:
+        return number, s, out, 0
+    new = units_of(n, count)
     text, r, parts = bits(data)[:count], s['r'], []
     for t in range(new):
         part, r = unit(s, r, text[t * n:(t + 1) * n])
         parts.append(part)
-    return 0, dict(s, r=r, units=s['units'] + new, closed=int(count % n > 0)), written(out, place, ''.join(parts))
+    moved = dict(s, r=r, units=s['units'] + new, closed=int(count % n > 0))
+    return 0, moved, written(out, place, ''.join(parts)), RUNS - before
+
+
+# the number, the bytes and the runs
+def forecast(mode, n, count):
+    if not length_ok(mode, n):
+        return 3, 0, 0
+    if count > MAX_BITS:
+        return 6, 0, 0
+    if part_unit(mode, n, count):
+        return 7, 0, 0
+    return 0, (count + 7) // 8, units_of(n, count)
 
 
 # padding, one block

@@ -3,7 +3,7 @@
 
    Every call ends, and answers a number of enum conguraha_answer; CONGURAHA_OK is success. A refused call writes this:
 
-       conguraha_session_feed, conguraha_feed          nothing: session and output stay as they were
+       conguraha_session_feed, conguraha_feed          0 runs, and nothing else: session and output stay as they were
        conguraha_session_open, conguraha_open          the refused session: CONGURAHA_ECB, encrypting, closed, and n, rounds,
                                                        units and all bytes 0
        conguraha_aes_expand                            0 rounds and 240 zero bytes
@@ -78,9 +78,10 @@ static inline uint8_t conguraha_session_open(struct conguraha_session *s, size_t
 /* Feeds the first `bits` bits of the input and writes what they become from out[place] on: as many bits, from a byte's highest
    on; the last byte's spare bits are 0. How a text is cut into feeds changes nothing in what is written, as long as each cut is
    between units. In OFB and CTR the last feed need not be whole blocks; it closes the session, and every later feed is
-   answered CONGURAHA_CLOSED. A feed of 0 bits changes nothing. */
+   answered CONGURAHA_CLOSED. A feed of 0 bits changes nothing. `*runs` becomes the runs of the block cipher that the feed
+   made: one for each unit, a short one included. */
 static inline uint8_t conguraha_session_feed(struct conguraha_session *s, const uint8_t *input, size_t input_length, size_t bits,
-                                             uint8_t *out, size_t out_length, size_t place);
+                                             uint8_t *out, size_t out_length, size_t place, size_t *runs);
 
 /* One block under a key, and the key's round keys. These answer CONGURAHA_OK or CONGURAHA_KEY_LENGTH. */
 uint8_t conguraha_aes_encrypt(const uint8_t *key, size_t key_length, const uint8_t block[CONGURAHA_BLOCK],
@@ -92,13 +93,13 @@ uint8_t conguraha_aes_expand(const uint8_t *key, size_t key_length, size_t *roun
 /* For benchmarks: puts the block through the cipher `count` times, in place, under a key that is expanded once. */
 uint8_t conguraha_aes_chain(const uint8_t *key, size_t key_length, bool decrypting, uint8_t block[CONGURAHA_BLOCK], size_t count);
 
-/* Sessions as the library has them, with the fields apart: an opening writes them all, a feed moves the last three. */
+/* Sessions as the library has them, with the fields apart: an opening writes them all, a feed moves reg, units and closed. */
 uint8_t conguraha_open(size_t mode, bool decrypting, size_t n, const uint8_t *key, size_t key_length, const uint8_t *iv,
                        size_t iv_length, size_t *held_mode, bool *held_decrypting, size_t *held_n, size_t *rounds,
                        uint8_t keys[CONGURAHA_KEYS], uint8_t reg[CONGURAHA_BLOCK], uint32_t *units, bool *closed);
 uint8_t conguraha_feed(size_t mode, bool decrypting, size_t n, size_t rounds, const uint8_t keys[CONGURAHA_KEYS],
                        uint8_t reg[CONGURAHA_BLOCK], uint32_t *units, bool *closed, const uint8_t *input, size_t input_length,
-                       size_t bits, uint8_t *out, size_t out_length, size_t place);
+                       size_t bits, uint8_t *out, size_t out_length, size_t place, size_t *runs);
 
 static inline uint8_t conguraha_session_open(struct conguraha_session *s, size_t mode, bool decrypting, size_t n,
                                              const uint8_t *key, size_t key_length, const uint8_t *iv, size_t iv_length)
@@ -109,10 +110,10 @@ static inline uint8_t conguraha_session_open(struct conguraha_session *s, size_t
 }
 
 static inline uint8_t conguraha_session_feed(struct conguraha_session *s, const uint8_t *input, size_t input_length, size_t bits,
-                                             uint8_t *out, size_t out_length, size_t place)
+                                             uint8_t *out, size_t out_length, size_t place, size_t *runs)
 {
     return conguraha_feed(s->mode, s->decrypting, s->n, s->rounds, s->keys, s->reg, &s->units, &s->closed, input, input_length,
-                          bits, out, out_length, place);
+                          bits, out, out_length, place, runs);
 }
 
 #ifdef __cplusplus

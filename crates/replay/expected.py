@@ -7,7 +7,7 @@ import re
 import sys
 
 sys.path.insert(0, os.path.join(os.path.dirname(os.path.abspath(__file__)), '..', '..', 'harness'))
-from document01 import MAX_BITS, REFUSED, feed, neighbour, opening, pad, single_block, unpad
+from document01 import MAX_BITS, REFUSED, feed, forecast, neighbour, opening, pad, single_block, unpad
 
 
 # the lines
@@ -49,6 +49,8 @@ def show(data):
     return data.hex() or '-'
 
 
+MODES = ('ECB', 'CBC', 'CFB', 'OFB', 'CTR')
+
 # the bytes of INPUT, TEXT and OUTLEN, and of a line
 LONGEST = MAX_BITS // 8 + 64
 LINE = 2 * LONGEST + 1920
@@ -59,16 +61,20 @@ class Replay:
         self.session = self.kept = REFUSED
 
     def open(self, mode, n, way, key, iv):
-        mode = read_one_of(mode, ('ECB', 'CBC', 'CFB', 'OFB', 'CTR'))
+        mode = read_one_of(mode, MODES)
         way = read_one_of(way, ('E', 'D'))
         number, self.session = opening(mode, way, read_number(n), read_bytes(key, LONGEST), read_bytes(iv, LONGEST))
         return str(number)
 
     def feed(self, count, size, place, fill, data):
         out = read_fill(fill) * read_number(size, LONGEST)
-        number, self.session, out = feed(self.session, read_bytes(data, LONGEST), read_number(count), out, read_number(place))
+        number, self.session, out, runs = feed(self.session, read_bytes(data, LONGEST), read_number(count), out, read_number(place))
         s = self.session
-        return f"{number} {show(out)} {s['r'].hex()} {s['units']} {s['closed']}"
+        return f"{number} {show(out)} {s['r'].hex()} {s['units']} {s['closed']} {runs}"
+
+    def forecast(self, mode, n, count):
+        number, size, runs = forecast(read_one_of(mode, MODES), read_number(n), read_number(count))
+        return f'{number} {size} {runs}'
 
     def pad(self, count, size, place, fill, data):
         out = read_fill(fill) * read_number(size, LONGEST)
@@ -97,7 +103,7 @@ class Replay:
         same = all(self.session[k] == self.kept[k] for k in ('mode', 'way', 'n', 'key', 'r'))
         return 'yes' if same else 'no'
 
-    COMMANDS = {'open': 5, 'feed': 5, 'pad': 5, 'unpad': 2, 'neighbour': 3, 'block': 7, 'keep': 0, 'alike': 0}
+    COMMANDS = {'open': 5, 'feed': 5, 'forecast': 3, 'pad': 5, 'unpad': 2, 'neighbour': 3, 'block': 7, 'keep': 0, 'alike': 0}
 
     def line(self, line):
         name, *words = line.split(' ')
@@ -150,6 +156,14 @@ def question_lines():
     yield from ('feed 16 2 18446744073709551615 00 6bc1', f'open CTR 128 E {KEY} {IV}', 'feed 3 1 0 ff ff', 'feed 0 1 0 ff ff')
 
 
+# every mode at the edges of n and of the bits; n = 3 and 9 bits; the largest numbers
+def forecast_lines():
+    for mode in MODES:
+        for n in (0, 1, 3, 8, 127, 128, 129, 2 ** 64 - 1):
+            for count in (0, 1, 8, 9, 127, 128, 129, MAX_BITS - 1, MAX_BITS, MAX_BITS + 1, 2 ** 64 - 7, 2 ** 64 - 1):
+                yield f'forecast {mode} {n} {count}'
+
+
 def text_lines():
     for count in (0, 1, 7, 8, 127, 128, 129, 255, 256):
         yield f'pad {count} 49 1 ee {TEXT}'
@@ -171,11 +185,12 @@ def text_lines():
 
 # a good line, and it with a word left out, added, doubled by a space or changed
 def bad_lines():
-    good = (f'open CFB 8 E {KEY} {IV}', f'feed 8 2 1 ee {IV}', f'pad 8 16 0 ee {IV}', f'unpad 128 {IV}',
+    good = (f'open CFB 8 E {KEY} {IV}', f'feed 8 2 1 ee {IV}', 'forecast CFB 3 9', f'pad 8 16 0 ee {IV}', f'unpad 128 {IV}',
             f'neighbour {IV} {IV} 0', f'block {KEY} {IV} {IV} 0 16 0 ee', 'keep', 'alike')
     numbers = ('', '-', '-1', '+1', '0x8', '1a', '18446744073709551616', '99999999999999999999', '1.0', '8\r', '8\t')
     data = ('', '0', '000', '0A', 'AB', '0g', '--', '-00', '0-', '0x', '/0', ':0', '`0', 'g0', '\x80\x80', '\0\0')
-    kinds = {'open': 'mnwbb', 'feed': 'nnnfb', 'pad': 'nnnfb', 'unpad': 'nb', 'neighbour': 'bbn', 'block': 'bbbnnnf'}
+    kinds = {'open': 'mnwbb', 'feed': 'nnnfb', 'forecast': 'mnn', 'pad': 'nnnfb', 'unpad': 'nb', 'neighbour': 'bbn',
+             'block': 'bbbnnnf'}
     wrong = {'m': ('', 'ecb', 'CBCX', 'CB', 'Ecb', '-'), 'n': numbers, 'w': ('', 'e', 'd', 'ED', 'F', '-'),
              'b': data, 'f': data + ('-', '000000', 'e')}
     yield from ('', ' ', '  ', '?', 'close', 'Open', 'opens', 'kee', 'keep\0', '\r', '\xff')
@@ -230,7 +245,7 @@ def random_lines():
 
 def main():
     if sys.argv[1:] == ['lines']:
-        for lines in (first_lines, mode_lines, question_lines, text_lines, bad_lines, random_lines, long_lines):
+        for lines in (first_lines, mode_lines, question_lines, forecast_lines, text_lines, bad_lines, random_lines, long_lines):
             for line in lines():
                 sys.stdout.buffer.write(line.encode('latin-1') + b'\n')
         # the last line has no line feed

@@ -18,11 +18,11 @@ def number(name, mode, n, key_length, iv_length):
     print(name, opening(mode, 'D', n, b'k' * key_length, b'v' * iv_length)[0])
 
 
-# a feed into 40 bytes of ee: its number, the output, and the session's R, units and closing
+# a feed into 40 bytes of ee: its number, the output, the session's R and units, the runs, and the closing
 def fed(name, session, count, place):
-    answer, session, out = feed(session, DATA, count, b'\xee' * 40, place)
+    answer, session, out, runs = feed(session, DATA, count, b'\xee' * 40, place)
     closed = ' closed' if session['closed'] else ''
-    print(name, answer, out.hex(), session['r'].hex(), f"{session['units']}{closed}")
+    print(name, answer, out.hex(), session['r'].hex(), session['units'], f'{runs}{closed}')
     return session
 
 
@@ -60,5 +60,5 @@ fed("a refused opening's", opened('CFB', 'E', 0), 8, 0)
 # a byte more than those of the largest feed
 ZEROS = bytes(MAX_BITS // 8 + 1)
 for name, count in (('the largest feed', MAX_BITS), ('a bit more', MAX_BITS + 1)):
-    answer, _, out = feed(ctr, ZEROS, count, ZEROS, 0)
-    print(name, answer, out[-17:].hex())
+    answer, _, out, runs = feed(ctr, ZEROS, count, ZEROS, 0)
+    print(name, answer, out[-17:].hex(), runs)

@@ -130,7 +130,7 @@ fn feeds((name, mode, n, theirs): Mode, direction: Direction, size: usize) -> [O
         [
             &mut || {
                 for at in (0..TEXT).step_by(size) {
-                    assert!(rattle.feed(&input[at..at + size], 8 * size, ours, at) == 0);
+                    assert!(rattle.feed(&input[at..at + size], 8 * size, ours, at).0 == 0);
                 }
             },
             &mut || {

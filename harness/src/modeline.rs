@@ -64,7 +64,7 @@ fn answer(input: &[u8]) -> String {
         return number(opened);
     }
     let mut out = vec![0; data.len()];
-    match session.feed(&data, 8 * data.len(), &mut out, 0) {
+    match session.feed(&data, 8 * data.len(), &mut out, 0).0 {
         0 => format!("0 {}\n", hex(&out)),
         refused => number(refused),
     }

@@ -59,6 +59,7 @@ extern "C" {
         out: *mut u8,
         out_length: usize,
         place: usize,
+        runs: *mut usize,
     ) -> u8;
 }
 
@@ -157,9 +158,10 @@ impl Session {
         (number, session)
     }
 
-    // The number; the session moves.
-    pub fn feed(&mut self, input: &[u8], bits: usize, out: &mut [u8], place: usize) -> u8 {
-        unsafe {
+    // The number and the runs of the block cipher; the session moves.
+    pub fn feed(&mut self, input: &[u8], bits: usize, out: &mut [u8], place: usize) -> (u8, usize) {
+        let mut runs = usize::MAX;
+        let number = unsafe {
             conguraha_feed(
                 self.mode,
                 self.decrypting,
@@ -175,7 +177,9 @@ impl Session {
                 out.as_mut_ptr(),
                 out.len(),
                 place,
+                &mut runs,
             )
-        }
+        };
+        (number, runs)
     }
 }

@@ -1,4 +1,4 @@
-// Document 01 once more, over OpenSSL's block functions: written from its text and not from the proved code. A text is a
+// Document 01, and the requests that changed it, once more, over OpenSSL's block functions: written from its text and not from the proved code. A text is a
 // vector of bits, and a unit is worked as the rules say it, with no thought of speed.
 use crate::openssl::{Direction, Key};
 
@@ -76,6 +76,8 @@ pub struct Session {
     pub register: [u8; 16],
     pub units: u32,
     pub closed: bool,
+    // how often OpenSSL's block functions were run
+    runs: usize,
 }
 
 impl Session {
@@ -88,6 +90,7 @@ impl Session {
             register: [0; 16],
             units: 0,
             closed: true,
+            runs: 0,
         }
     }
 
@@ -118,6 +121,7 @@ impl Session {
             register: iv.try_into().unwrap_or([0; 16]),
             units: 0,
             closed: false,
+            runs: 0,
         };
         (0, session)
     }
@@ -148,8 +152,16 @@ impl Session {
         0
     }
 
-    pub fn feed(&mut self, input: &[u8], count: usize, out: &mut [u8], place: usize) -> u8 {
+    // The number and the runs.
+    pub fn feed(
+        &mut self,
+        input: &[u8],
+        count: usize,
+        out: &mut [u8],
+        place: usize,
+    ) -> (u8, usize) {
         let number = self.feed_number(input, count, out.len(), place);
+        let before = self.runs;
         if number == 0 {
             let text = bits(&input[..parts(count, 8)]);
             let worked: Vec<bool> = text[..count]
@@ -159,43 +171,51 @@ impl Session {
             let written = bytes(&worked);
             out[place..place + written.len()].copy_from_slice(&written);
         }
-        number
+        (number, self.runs - before)
+    }
+
+    fn enc(&mut self, block: &[u8; 16]) -> [u8; 16] {
+        self.runs += 1;
+        self.key.as_ref().expect("an open session").enc(block)
+    }
+
+    fn dec(&mut self, block: &[u8; 16]) -> [u8; 16] {
+        self.runs += 1;
+        self.key.as_ref().expect("an open session").dec(block)
     }
 
     // One unit by its mode's rule.
     fn unit(&mut self, unit: &[bool]) -> Vec<bool> {
-        let key = self.key.as_ref().expect("an open session has a key");
+        let register = self.register;
         let decrypting = self.direction == Direction::Decrypt;
-        let r = bits(&self.register);
+        let r = bits(&register);
         self.units += 1;
         self.closed = unit.len() < self.n;
         match self.mode {
-            Mode::Ecb if decrypting => bits(&key.dec(&block(unit))),
-            Mode::Ecb => bits(&key.enc(&block(unit))),
+            Mode::Ecb if decrypting => bits(&self.dec(&block(unit))),
+            Mode::Ecb => bits(&self.enc(&block(unit))),
             Mode::Cbc if decrypting => {
-                let plain = sum(&bits(&key.dec(&block(unit))), &r);
+                let plain = sum(&bits(&self.dec(&block(unit))), &r);
                 self.register = block(unit);
                 plain
             }
             Mode::Cbc => {
-                self.register = key.enc(&block(&sum(unit, &r)));
+                self.register = self.enc(&block(&sum(unit, &r)));
                 bits(&self.register)
             }
             Mode::Cfb => {
-                let other = sum(unit, &bits(&key.enc(&self.register)));
+                let other = sum(unit, &bits(&self.enc(&register)));
                 let cipher = if decrypting { unit } else { &other };
                 self.register = block(&[&r[self.n..], cipher].concat());
                 other
             }
             Mode::Ofb => {
-                self.register = key.enc(&self.register);
+                self.register = self.enc(&register);
                 sum(unit, &bits(&self.register))
             }
             Mode::Ctr => {
-                let text = sum(unit, &bits(&key.enc(&self.register)));
-                self.register = u128::from_be_bytes(self.register)
-                    .wrapping_add(1)
-                    .to_be_bytes();
+                let text = sum(unit, &bits(&self.enc(&register)));
+                self.register = u128::from_be_bytes(register).wrapping_add(1).to_be_bytes();
                 text
             }
         }
@@ -213,6 +233,20 @@ impl Session {
             && keys(self) == keys(other)
             && self.register == other.register
     }
+}
+
+// What a feed of so many bits will cost: the number, the bytes and the runs.
+pub fn forecast(mode: Mode, n: usize, count: usize) -> (u8, usize, usize) {
+    if !mode.takes(n) {
+        return (3, 0, 0);
+    }
+    if count > MAX_BITS {
+        return (6, 0, 0);
+    }
+    if mode.wants_whole_units() && count % n != 0 {
+        return (7, 0, 0);
+    }
+    (0, parts(count, 8), parts(count, n))
 }
 
 // The number and the padded length.

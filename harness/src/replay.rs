@@ -42,6 +42,10 @@ pub fn run(report: &mut Report) {
         "replay: pad, unpad, neighbour and block as the reference",
         other_calls,
     );
+    report.test(
+        "replay: forecasts as the reference, and feeds as forecast",
+        forecasts,
+    );
     report.test("replay: keep and alike as the reference", comparisons);
     report.test("replay: a bad line prints ? and changes nothing", bad_lines);
     report.test("replay: the largest feed, and a bit more", largest);
@@ -95,7 +99,7 @@ impl Script {
 
     fn feed(&mut self, feed: &Feed) {
         let mut out = feed.out.clone();
-        let number = self
+        let (number, runs) = self
             .session
             .feed(&feed.input, feed.bits, &mut out, feed.place);
         let line = format!(
@@ -107,13 +111,19 @@ impl Script {
             word(&feed.input)
         );
         let expected = format!(
-            "{number} {} {} {} {}",
+            "{number} {} {} {} {} {runs}",
             word(&out),
             hex(&self.session.register),
             self.session.units,
             self.session.closed as u8
         );
         self.line(line, expected);
+    }
+
+    fn forecast(&mut self, mode: Mode, n: usize, bits: usize) {
+        let (number, size, runs) = reference::forecast(mode, n, bits);
+        let line = format!("forecast {} {n} {bits}", mode.name());
+        self.line(line, format!("{number} {size} {runs}"));
     }
 
     // Runs the lines and compares. The answer is what the program printed, line by line.
@@ -249,7 +259,7 @@ fn message(rng: &mut Rng, mode: Mode, least: usize) -> (usize, Vec<u8>, Vec<u8>,
     let plain = rng.bytes(parts(units * n, 8));
     let mut out = vec![0; plain.len()];
     let (_, mut sender) = Session::open(mode, Direction::Encrypt, n, &key, &iv);
-    assert!(sender.feed(&plain, units * n, &mut out, 0) == 0);
+    assert!(sender.feed(&plain, units * n, &mut out, 0).0 == 0);
     (n, key, iv, bits(&out)[..units * n].to_vec())
 }
 
@@ -415,6 +425,66 @@ fn blocks(rng: &mut Rng, script: &mut Script) {
     );
 }
 
+// What the lines say of a feed: the number, the bytes written and the runs. It was made twice, into bytes of 00 and of ff: a byte
+// that it wrote is the same in both outputs, and one that it left is not.
+fn said(first: &str, second: &str) -> [usize; 3] {
+    let words: Vec<&str> = first.split(' ').collect();
+    let again: Vec<&str> = second.split(' ').collect();
+    let pairs = words[1]
+        .as_bytes()
+        .chunks(2)
+        .zip(again[1].as_bytes().chunks(2));
+    let written = pairs.filter(|(a, b)| a == b && a != b"-").count();
+    [
+        words[0].parse().unwrap(),
+        written,
+        words[5].parse().unwrap(),
+    ]
+}
+
+// A forecast before each feed. Then the program's own lines are compared: an accepted feed wrote and ran what was forecast, a
+// refused one wrote and ran nothing, and one whose forecast was refused is refused.
+fn forecasts(rng: &mut Rng) -> Outcome {
+    let mut script = Script::new();
+    let mut places = vec![];
+    for _ in 0..LISTS {
+        let mode = *rng.pick(&MODES);
+        let n = match rng.below(8) {
+            0 => rng.below(200),
+            1 => rng.number() as usize,
+            _ => any_n(rng, mode),
+        };
+        for bits in [0, 1, n, MAX_BITS, MAX_BITS + 1, usize::MAX] {
+            script.forecast(mode, n, bits);
+        }
+        let (key, iv) = (any_key(rng), iv_of(rng, mode));
+        let mut feed = Feed::any(rng, n.min(1000));
+        places.push(script.lines.len());
+        script.forecast(mode, n, feed.bits);
+        for fill in [0x00, 0xff] {
+            script.open(mode, Direction::Encrypt, n, &key, &iv);
+            feed.out.fill(fill);
+            script.feed(&feed);
+        }
+    }
+    let printed = script.run()?;
+    for at in places {
+        let line = || script.lines[at + 2].0.clone();
+        let cost: Vec<usize> = printed[at].split(' ').map(|w| w.parse().unwrap()).collect();
+        let fed = said(&printed[at + 2], &printed[at + 4]);
+        if fed[0] == 0 {
+            equal(line, &cost[..], &fed[..])?;
+        } else {
+            equal(line, &[0, 0][..], &fed[1..])?;
+        }
+        if cost[0] != 0 {
+            equal(line, &[0, 0][..], &cost[1..])?;
+            equal(line, false, fed[0] == 0)?;
+        }
+    }
+    Ok(())
+}
+
 // Sessions that agree in all, or in all but one field.
 fn comparisons(rng: &mut Rng) -> Outcome {
     let mut script = Script::new();
@@ -486,6 +556,13 @@ fn bad_lines(rng: &mut Rng) -> Outcome {
         "feed 8 1 0 00 0",
         "feed\t8 1 0 00 00",
         "feed 8 1 0 00 00\r",
+        "forecast",
+        "forecast CTR 128",
+        "forecast CTR 128 8 8",
+        "forecast CTR 128 x",
+        "forecast CTR -1 8",
+        "forecast ctr 128 8",
+        "forecast CTR 128 18446744073709551616",
         "pad 8 16 0 00",
         "pad 8 16 0 00 zz",
         "unpad 8",

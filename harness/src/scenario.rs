@@ -49,7 +49,7 @@ fn received(
         let end = (at + segments * n).min(stream.len());
         let read = bytes(&stream[at..end]);
         let mut out = vec![0; read.len()];
-        match session.feed(&read, end - at, &mut out, 0) {
+        match session.feed(&read, end - at, &mut out, 0).0 {
             0 => text.extend_from_slice(&bits(&out)[..end - at]),
             number => return Err(format!("a read is answered {number}")),
         }

@@ -85,7 +85,7 @@ fn fed_in_parts(
     let mut at = 0;
     while at < text.len() {
         let end = (at + unit * (1 + rng.below(8))).min(text.len());
-        let number = session.feed(&text[at..end], 8 * (end - at), &mut out, at);
+        let (number, _) = session.feed(&text[at..end], 8 * (end - at), &mut out, at);
         if number != 0 {
             return Err(format!("a feed is answered {number}"));
         }
@@ -138,14 +138,14 @@ fn counter(rng: &mut Rng) -> Outcome {
     Ok(())
 }
 
-// Every field of the session, and the output.
-fn same(
+// A call's numbers, every field of the session, and the output.
+fn same<Numbers: PartialEq + std::fmt::Debug>(
     input: impl Fn() -> String,
-    expected: (u8, &reference::Session, &[u8]),
-    came: (u8, &rattle::Session, &[u8]),
+    expected: (Numbers, &reference::Session, &[u8]),
+    came: (Numbers, &rattle::Session, &[u8]),
 ) -> Outcome {
-    let (number, session, out) = expected;
-    equal(&input, number, came.0)?;
+    let (numbers, session, out) = expected;
+    equal(&input, numbers, came.0)?;
     let decrypting = session.direction == Direction::Decrypt;
     equal(
         &input,
@@ -190,7 +190,7 @@ fn as_reference(rng: &mut Rng, mode: Mode) -> Outcome {
                 let feed = Feed::any(rng, n);
                 let mut expected = feed.out.clone();
                 let mut out = feed.out.clone();
-                let number = theirs.feed(&feed.input, feed.bits, &mut expected, feed.place);
+                let fed = theirs.feed(&feed.input, feed.bits, &mut expected, feed.place);
                 let came = ours.feed(&feed.input, feed.bits, &mut out, feed.place);
                 same(
                     || {
@@ -202,7 +202,7 @@ fn as_reference(rng: &mut Rng, mode: Mode) -> Outcome {
                             feed.place
                         )
                     },
-                    (number, &theirs, &expected),
+                    (fed, &theirs, &expected),
                     (came, &ours, &out),
                 )?;
             }
@@ -265,11 +265,11 @@ fn last_units(rng: &mut Rng) -> Outcome {
             ours.units = MAX_UNITS - left;
             let input = rng.bytes(units);
             let (mut expected, mut out) = ([7; 8], [7; 8]);
-            let number = theirs.feed(&input, 8 * units, &mut expected, 0);
+            let fed = theirs.feed(&input, 8 * units, &mut expected, 0);
             let came = ours.feed(&input, 8 * units, &mut out, 0);
             same(
                 || format!("{left} units left, {units} fed"),
-                (number, &theirs, &expected),
+                (fed, &theirs, &expected),
                 (came, &ours, &out),
             )?;
         }
@@ -292,11 +292,11 @@ fn no_mode(rng: &mut Rng) -> Outcome {
         session.mode = mode;
         let before = session.clone();
         let mut out = [9; 16];
-        let number = session.feed(&iv, 128, &mut out, 0);
+        let fed = session.feed(&iv, 128, &mut out, 0);
         equal(
             || format!("mode {mode}"),
-            (12, &before, [9; 16]),
-            (number, &session, out),
+            ((12, 0), &before, [9; 16]),
+            (fed, &session, out),
         )?;
     }
     Ok(())

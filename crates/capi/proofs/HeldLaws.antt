@@ -79,14 +79,14 @@ unfolding held HeldAgain
 held-again s = rw (mode-again (s .mode), direction-again (s .direction))
 
 module _ (code : ℕ) (s : Session) (input : List ℕ) (count : ℕ) (out : List ℕ) (place : ℕ) where
-  pub not-fed : 4 < code → FedAt code s input count out place 12 (s .register) (s .units) (s .closed) out
+  pub not-fed : 4 < code → FedAt code s input count out place 12 (s .register) (s .units) (s .closed) out 0
   unfolding fedNumber fedAs
   not-fed h =
       let e = no-mode code (feedNumber s (length input) count (length out) place) h in
-      record { answer = sym e; register-written = rw e; units-written = rw e; closed-written = rw e; output = rw e }
+      record { answer = sym e; register-written = rw e; units-written = rw e; closed-written = rw e; output = rw e; runs-written = rw e }
 
   pub fed : {t : Session} {r : Fed} {after : List ℕ} → code ≤ 4 → t ≡ s → FedBy t input count out place r after
-      → FedAt code s input count out place (r .number) (r .session .register) (r .session .units) (r .session .closed) after
+      → FedAt code s input count out place (r .number) (r .session .register) (r .session .units) (r .session .closed) after (r .runs)
   unfolding fedNumber fedAs
   fed h same f =
       let e = mode-number code (feedNumber s (length input) count (length out) place) h in
@@ -97,4 +97,5 @@ module _ (code : ℕ) (s : Session) (input : List ℕ) (count : ℕ) (out : List
         units-written = rw (e, ← same, next);
         closed-written = rw (e, ← same, next);
         output = rw (e, ← same) (f .output);
+        runs-written = rw (e, ← same) (f .runs);
       }

@@ -11,7 +11,7 @@ use Rattle.rules.specs.declared.Direction.{Direction}
 use Rattle.rules.specs.declared.Direction.the-variants.{Encrypt, Decrypt}
 use Rattle.modes.specs.declared.session.Session.{Session}
 use Rattle.modes.specs.declared.session.Opened.{Opened}
-use Rattle.modes.specs.Sessions.{openNumber, openedSession, refusedSession, feedNumber, fedText, sessionText, fedSession, written}
+use Rattle.modes.specs.Sessions.{openNumber, openedSession, refusedSession, feedNumber, fedText, sessionText, fedSession, sessionRuns, written}
 
 -- ---- the numbers
 
@@ -91,9 +91,10 @@ module _ (code : ℕ) (s : Session) (input : List ℕ) (count : ℕ) (out : List
   unfoldable pub fedAs : Session
   fedAs = cond (eqb fedNumber 0) (fedSession s (fedText input count)) s
 
-  pub record FedAt (r : ℕ) (register : List ℕ) (units : ℕ) (closed : Bool) (after : List ℕ) : Type 0 where
+  pub record FedAt (r : ℕ) (register : List ℕ) (units : ℕ) (closed : Bool) (after : List ℕ) (runs : ℕ) : Type 0 where
     pub answer : r ≡ fedNumber
     pub register-written : register ≡ fedAs .register
     pub units-written : units ≡ fedAs .units
     pub closed-written : closed ≡ fedAs .closed
     pub output : after ≡ cond (eqb fedNumber 0) (written out place (sessionText s (fedText input count))) out
+    pub runs-written : runs ≡ cond (eqb fedNumber 0) (sessionRuns s (fedText input count)) 0

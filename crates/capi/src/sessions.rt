@@ -105,7 +105,8 @@ pub extern "C" fn conguraha_open(
     opened.number
 }
 
-// Feeds the session that the fields make, moves its register, units and closing, and gives the number.
+// Feeds the session that the fields make, moves its register, units and closing, writes the runs of the block cipher, and gives
+// the number.
 #[no_mangle]
 pub extern "C" fn conguraha_feed(
     mode: usize,
@@ -120,10 +121,12 @@ pub extern "C" fn conguraha_feed(
     bits: usize,
     out: &mut [u8],
     place: usize,
+    runs: &mut usize,
 ) -> u8
-    ensures { λ r. ⌜ FedAt mode (held mode decrypting n rounds (now (keys .entry)) (now (register .entry)) (now (units .entry)) (now (closed .entry))) (now (input .entry)) bits (now (out .entry)) place r (now (register .exit)) (now (units .exit)) (now (closed .exit)) (now (out .exit)) ⌝ }
+    ensures { λ r. ⌜ FedAt mode (held mode decrypting n rounds (now (keys .entry)) (now (register .entry)) (now (units .entry)) (now (closed .entry))) (now (input .entry)) bits (now (out .entry)) place r (now (register .exit)) (now (units .exit)) (now (closed .exit)) (now (out .exit)) (now (runs .exit)) ⌝ }
 {
     if mode > 4 {
+        *runs = 0;
         return 12;
     }
     let session = Session {
@@ -142,5 +145,6 @@ pub extern "C" fn conguraha_feed(
     *register = moved;
     *units = next.units;
     *closed = next.closed;
+    *runs = fed.runs;
     fed.number
 }

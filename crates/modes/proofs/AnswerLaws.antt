@@ -17,7 +17,7 @@ use Rattle.rules.specs.Lengths.{unitLengthOk}
 use Rattle.rules.specs.Rules.{unitsIn}
 use Rattle.modes.specs.declared.session.Session.{Session}
 use Rattle.questions.specs.Questions.{ask, ivOk, openQuestions}
-use Rattle.modes.specs.Sessions.{openNumber, openedSession, refusedSession, OpenedBy, fedText, sessionText, sessionRegister, feedNumber, fedSession, written, FedBy}
+use Rattle.modes.specs.Sessions.{openNumber, openedSession, refusedSession, OpenedBy, fedText, sessionText, sessionRegister, feedNumber, fedSession, sessionRuns, written, FedBy}
 
 -- ---- open
 
@@ -64,14 +64,15 @@ module _ (mode : Mode) (dir : Direction) (n : ℕ) (key iv : List ℕ) where
 
 module _ (s : Session) (input : List ℕ) (count : ℕ) (out : List ℕ) (place : ℕ) where
   pub feed-refused : {number : ℕ} → number ≡ feedNumber s (length input) count (length out) place → (number ≡ 0 → ⊥)
-      → FedBy s input count out place (record { number = number; session = s }) out
+      → FedBy s input count out place (record { number = number; session = s; runs = 0 }) out
   feed-refused {number} e no-zero =
       let f : eqb (feedNumber s (length input) count (length out) place) 0 ≡ false = ne-eqb (feedNumber s (length input) count (length out) place) 0 (λ z. no-zero (e ∙ z)) in
-      record { answer = e; session = rw f; output = rw f }
+      record { answer = e; session = rw f; output = rw f; runs = rw f }
 
-  pub feed-accepted : {t : Session} {after : List ℕ} → feedNumber s (length input) count (length out) place ≡ 0 → t ≡ fedSession s (fedText input count)
-      → after ≡ written out place (sessionText s (fedText input count)) → FedBy s input count out place (record { number = 0; session = t }) after
-  feed-accepted z e f = record { answer = sym z; session = e ∙ rw z; output = f ∙ rw z }
+  pub feed-accepted : {t : Session} {after : List ℕ} {runs : ℕ} → feedNumber s (length input) count (length out) place ≡ 0 → t ≡ fedSession s (fedText input count)
+      → after ≡ written out place (sessionText s (fedText input count)) → runs ≡ sessionRuns s (fedText input count)
+      → FedBy s input count out place (record { number = 0; session = t; runs = runs }) after
+  feed-accepted z e f g = record { answer = sym z; session = e ∙ rw z; output = f ∙ rw z; runs = g ∙ rw z }
 
 -- A part that was written at its front, back in its place.
 pub part-written : (out : List ℕ) (place count : ℕ) (x : List Bool) (part : List ℕ) → place ≤ length out → length (pack x) ≡ count → count ≤ length out - place

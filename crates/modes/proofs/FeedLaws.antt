@@ -1,7 +1,8 @@
--- Demand 1 for one feed: a refused one changes nothing, an accepted one exactly the named bytes. Assumes nothing.
-use Prim.Native.Nat.{ℕ, _%_}
+-- Demand 1 for one feed: a refused one changes nothing, an accepted one exactly the named bytes; and the runs that it made. Assumes
+-- nothing.
+use Prim.Native.Nat.{ℕ, _+_, _%_}
 use mathlib.Core.Path.{_≡_, refl, sym, ap, _∙_}
-use mathlib.Core.Bool.{Bool, true, false, not}
+use mathlib.Core.Bool.{Bool, true, false, cond, not}
 use mathlib.Core.List.{List, [], append-nil}
 use native.Mathlib.Omega.{arith}
 use lib.Dec.{eqb}
@@ -14,7 +15,7 @@ use Rattle.rules.specs.Lengths.{wholeUnits}
 use Rattle.rules.proofs.Taken.{unit-bounds}
 use Rattle.modes.specs.declared.session.Session.{Session}
 use Rattle.modes.specs.declared.session.Fed.{Fed}
-use Rattle.modes.specs.Sessions.{Arrays, FedBy, fedText, fedSession, sessionText, feedNumber, written}
+use Rattle.modes.specs.Sessions.{Arrays, FedBy, fedText, fedSession, sessionText, sessionRuns, feedNumber, written}
 use Rattle.modes.specs.Promises.{RefusedUnchanged, ExactlyTheNamed, AcceptedExact, NothingFed, ClosesAfterShort}
 use Rattle.questions.proofs.QuestionLaws.{FeedTaken, feed-taken}
 use Rattle.modes.proofs.WrittenLaws.{written-before, written-behind, written-text, written-spare, written-size}
@@ -51,6 +52,9 @@ module _ {s : Session} {input : List ℕ} {count : ℕ} {out : List ℕ} {place 
   pub accepted-session : r .session ≡ fedSession s (fedText input count)
   accepted-session = rw number-zero at (fed .session)
 
+  pub accepted-runs : r .runs ≡ sessionRuns s (fedText input count)
+  accepted-runs = rw number-zero at (fed .runs)
+
   pub accepted-output : after ≡ written out place (sessionText s (fedText input count))
   accepted-output = rw number-zero at (fed .output)
 
@@ -70,6 +74,26 @@ module _ {s : Session} {input : List ℕ} {count : ℕ} {out : List ℕ} {place 
 pub accepted-exact : AcceptedExact
 unfolding AcceptedExact
 accepted-exact s input count out place r after arrays fed accepted = accepted-named fed accepted arrays
+
+-- ---- the runs
+
+pub refused-runs : {s : Session} {input : List ℕ} {count : ℕ} {out : List ℕ} {place : ℕ} {r : Fed} {after : List ℕ}
+    → FedBy s input count out place r after → (r .number ≡ 0 → ⊥) → r .runs ≡ 0
+refused-runs {s} {input} {count} {out} {place} fed refused =
+    rw (ne-eqb (feedNumber s (length input) count (length out) place) 0 (λ e. refused (fed .answer ∙ e))) at (fed .runs)
+
+-- Refused or accepted, as many units are done as runs were made.
+pub runs-done : {s : Session} {input : List ℕ} {count : ℕ} {out : List ℕ} {place : ℕ} {r : Fed} {after : List ℕ}
+    → FedBy s input count out place r after → r .session .units ≡ s .units + r .runs
+unfolding fedSession sessionRuns
+runs-done {s} {input} {count} {out} {place} fed =
+    ap (λ (t : Session). t .units) (fed .session)
+    ∙ by-answer (eqb (feedNumber s (length input) count (length out) place) 0)
+    ∙ ap (λ (k : ℕ). s .units + k) (sym (fed .runs))
+  where
+    by-answer : (b : Bool) → cond b (fedSession s (fedText input count)) s .units ≡ s .units + cond b (sessionRuns s (fedText input count)) 0
+    by-answer true = refl
+    by-answer false = sym (add-zero (s .units))
 
 -- ---- a feed of 0 bits, and closing
 

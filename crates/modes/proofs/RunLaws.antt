@@ -1,19 +1,20 @@
 -- A list of feeds is as one feed of all the bits that were accepted: the text written and the session at the end are that feed's.
 -- Assumes nothing.
-use Prim.Native.Nat.{_%_}
+use Prim.Native.Nat.{_+_, _%_}
 use mathlib.Core.Path.{_≡_, refl, sym, ap, ap₂, _∙_}
 use mathlib.Core.Bool.{Bool, true, false, true≢false}
 use mathlib.Core.List.{List, [], _∷_, _++_, append-nil}
+use native.Mathlib.Nat.{add-zero, add-assoc}
 use lib.ListN.{length, take, drop}
 use borrow.Author.Tests.{eqb-true, eqb-false}
 use Rattle.bits.specs.Texts.{bits}
 use Rattle.rules.specs.Lengths.{wholeUnits}
 use Rattle.modes.specs.declared.session.Session.{Session}
 use Rattle.modes.specs.Sessions.{FedBy, fedText, fedSession, sessionText}
-use Rattle.modes.specs.Lists.{Call, Run, done, fed, accepted, fedBits, writtenBits, allFed, allWritten}
-use Rattle.modes.specs.Promises.{RefusedUnchanged}
+use Rattle.modes.specs.Lists.{Call, Run, done, fed, accepted, fedBits, writtenBits, allFed, allWritten, allRuns}
+use Rattle.modes.specs.Promises.{RefusedUnchanged, RunsAddUp}
 use Rattle.modes.proofs.SessionLaws.{Ready, some-bits, fed-ready, text-none, fed-none, whole-none, whole-fed, text-append, fed-append, whole-units-append}
-use Rattle.modes.proofs.FeedLaws.{refused-unchanged, accepted-not-closed, accepted-count, accepted-whole, accepted-session, accepted-named}
+use Rattle.modes.proofs.FeedLaws.{refused-unchanged, accepted-not-closed, accepted-count, accepted-whole, accepted-session, accepted-named, runs-done}
 
 -- ---- one call
 
@@ -137,3 +138,15 @@ ended {s} done ready =
       as-one = λ free. record { whole = whole-none (s .mode) (s .n); text = sym (text-none s (some-bits ready)); session = sym (fed-none s (some-bits ready) free) };
     }
 ended (fed f run) ready = ended-step ready (step ready f) (ended run)
+
+-- ---- the runs of a list
+
+runs-added : {s t : Session} {calls : List Call} → Run s calls t → t .units ≡ s .units + allRuns calls
+unfolding allRuns
+runs-added {s} done = sym (add-zero (s .units))
+runs-added {s} (fed {c = c} {cs = cs} f rest) =
+    runs-added rest ∙ ap (λ k. k + allRuns cs) (runs-done f) ∙ add-assoc (s .units) (c .result .runs) (allRuns cs)
+
+pub runs-add-up : RunsAddUp
+unfolding RunsAddUp
+runs-add-up s t calls run = runs-added run

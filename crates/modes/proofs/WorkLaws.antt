@@ -27,7 +27,9 @@ use Rattle.cipher.specs.Cipher.{Enc, Dec}
 use Rattle.cipher.specs.Promises.{UndoEachOther}
 use Rattle.cipher.proofs.CipherLaws.{undo-each-other}
 use Rattle.questions.specs.Questions.{ivOk}
+use Rattle.units.specs.declared.unit.Step.{Step}
 use Rattle.units.specs.Turns.{Turned, unitSizeOk}
+use Rattle.modes.specs.declared.work.Progress.{Progress}
 use Rattle.modes.specs.Works.{Workable, RunsUnder, UnitWorked, Worked}
 use Rattle.units.proofs.TurnLaws.{out-same, next-same}
 
@@ -135,14 +137,15 @@ module _ {mode : Mode} {n : ℕ} {input : List ℕ} {count : ℕ} {out : List �
   unfolding bytesFor
   unit-fits = (omega (arith, unit-bounds mode n (w .unit-length)), omega (arith, unit-inside, w .room))
 
-  pub unit-worked : {f : List ℕ → List ℕ} {dir : Direction} {register : List ℕ} {size : ℕ} {unit text next after : List ℕ} → size ≡ min n (count - t * n)
+  pub unit-worked : {f : List ℕ → List ℕ} {dir : Direction} {register : List ℕ} {size : ℕ} {unit after : List ℕ} {step : Step} → size ≡ min n (count - t * n)
       → unit ≡ packTo 16 (take size (drop (t * n % 8) (bits (drop (t * n / 8) input))))
-      → Turned f mode dir register unit size text next → after ≡ putBits out (t * n) (take size (bits text))
-      → UnitWorked f mode dir n register input count out t next after
+      → Turned f mode dir register unit size step → after ≡ putBits out (t * n) (take size (bits (step .out)))
+      → UnitWorked f mode dir n register input count out t (record { register = step .register; runs = step .runs }) after
   unit-worked {f} {dir} {register} {size} {unit} e u turned put =
       record {
         register-after = turned .register-after ∙ ap (nextOf f f mode dir register) found;
         out-after = put ∙ ap (putBits out (t * n)) (turned .out-bits ∙ ap (outOf f f mode dir register) found);
+        one-run = turned .one-run;
       }
     where
       whole : unit ≡ packTo 16 (unitAt n (take count (bits input)) t)
@@ -165,9 +168,10 @@ put-next : (x s : List Bool) (old : List ℕ) (at : ℕ) {out after : List ℕ} 
 put-next x s old at e o p =
     p ∙ ap₂ (λ b k. putBits b k s) o (sym e) ∙ put-after x s old ∙ ap (λ k. pack (x ++ s) ++ drop (bytesFor k) old) (sym (length-append x s))
 
--- After t units: the register, and what they became in front of the rest of the old output.
-pub record Through (mode : Mode) (dir : Direction) (n rounds : ℕ) (keys register input : List ℕ) (count : ℕ) (old : List ℕ) (t : ℕ) (r out : List ℕ) : Type 0 where
-  pub register-now : r ≡ registerAt (Enc rounds keys) (Dec rounds keys) mode dir n register (take count (bits input)) t
+-- After t units: the register, the runs, and what they became in front of the rest of the old output.
+pub record Through (mode : Mode) (dir : Direction) (n rounds : ℕ) (keys register input : List ℕ) (count : ℕ) (old : List ℕ) (t : ℕ) (r : Progress) (out : List ℕ) : Type 0 where
+  pub runs-now : r .runs ≡ t
+  pub register-now : r .register ≡ registerAt (Enc rounds keys) (Dec rounds keys) mode dir n register (take count (bits input)) t
   pub out-now : out ≡ pack (joined t (outAt (Enc rounds keys) (Dec rounds keys) mode dir n register (take count (bits input)))) ++ drop (bytesFor (length (joined t (outAt (Enc rounds keys) (Dec rounds keys) mode dir n register (take count (bits input)))))) old
 
 module _ {mode : Mode} {dir : Direction} {n rounds : ℕ} {keys input : List ℕ} {f : List ℕ → List ℕ} {count : ℕ} {old : List ℕ} (w : Workable mode n input count old) (under : RunsUnder rounds keys mode dir f) {register : List ℕ} (hr : Block register) where
@@ -190,11 +194,11 @@ module _ {mode : Mode} {dir : Direction} {n rounds : ℕ} {keys input : List ℕ
   become-length : (t : ℕ) → t ≤ unitsIn n count → length (joined t become) ≡ min (t * n) count
   become-length t h = part-length ciphers dir hr text-taken t (rw count-bits h) ∙ ap (min (t * n)) count-bits
 
-  pub none-through : Through mode dir n rounds keys register input count old 0 register old
+  pub none-through : Through mode dir n rounds keys register input count old 0 (record { register = register; runs = 0 }) old
   unfolding registerAt joined pack packTo bytesFor
-  none-through = record { register-now = refl; out-now = refl }
+  none-through = record { runs-now = refl; register-now = refl; out-now = refl }
 
-  pub through-length : (t : ℕ) → t ≤ unitsIn n count → {r out : List ℕ} → Through mode dir n rounds keys register input count old t r out → length out ≡ length old
+  pub through-length : (t : ℕ) → t ≤ unitsIn n count → {r : Progress} {out : List ℕ} → Through mode dir n rounds keys register input count old t r out → length out ≡ length old
   through-length t h {out = out} s =
       let l : length out ≡ length (pack (joined t become) ++ drop (bytesFor (length (joined t become))) old) = ap length (s .out-now) in
       let m : length (pack (joined t become)) ≡ bytesFor (length (joined t become)) = length-pack (joined t become) in
@@ -205,8 +209,9 @@ module _ {mode : Mode} {dir : Direction} {n rounds : ℕ} {keys input : List ℕ
   still-workable e =
       record { unit-length = w .unit-length; whole = w .whole; within = w .within; small = w .small; room = rw e (w .room) }
 
-  pub one-through : (t : ℕ) → t < unitsIn n count → {r out next after : List ℕ} → Through mode dir n rounds keys register input count old t r out
-      → UnitWorked f mode dir n r input count out t next after → Through mode dir n rounds keys register input count old (suc t) next after
+  pub one-through : (t : ℕ) → t < unitsIn n count → {r unit : Progress} {out after : List ℕ} → Through mode dir n rounds keys register input count old t r out
+      → UnitWorked f mode dir n (r .register) input count out t unit after
+      → Through mode dir n rounds keys register input count old (suc t) (record { register = unit .register; runs = r .runs + unit .runs }) after
   unfolding registerAt joined outAt
   one-through t h {out = out} s u =
       let at : length (joined t become) ≡ t * n = become-length t (omega arith) ∙ min-eq-left (omega (arith, unit-there count t (unit-bounds mode n (w .unit-length) .0) .0 h)) in
@@ -214,16 +219,18 @@ module _ {mode : Mode} {dir : Direction} {n rounds : ℕ} {keys input : List ℕ
       let size = unit-taken w h in
       let now = s .register-now in
       record {
+        runs-now = omega (arith, s .runs-now, u .one-run);
         register-now = u .register-after ∙ ap (λ r. nextOf f f mode dir r (unitAt n text t)) now ∙ next-same block (unitAt n text t) mode dir (under .runs) size;
         out-now = put-next (joined t become) (become t) old (t * n) at (s .out-now)
             (u .out-after ∙ ap (putBits out (t * n)) (ap (λ r. outOf f f mode dir r (unitAt n text t)) now ∙ out-same block (unitAt n text t) mode dir (under .runs) size));
       }
 
-  pub all-through : {r out : List ℕ} → Through mode dir n rounds keys register input count old (unitsIn n count) r out → Worked mode dir n rounds keys register input count old r out
+  pub all-through : {r : Progress} {out : List ℕ} → Through mode dir n rounds keys register input count old (unitsIn n count) r out → Worked mode dir n rounds keys register input count old r out
   unfolding worked
   all-through s =
       let all : length (joined (unitsIn n count) become) ≡ count = become-length (unitsIn n count) (le-refl (unitsIn n count)) ∙ min-eq-right (units-cover count (unit-bounds mode n (w .unit-length) .0)) in
       record {
+        all-runs = s .runs-now;
         register-after = s .register-now;
         out-after = s .out-now ∙ ap₂ (λ k l. pack (joined (unitsIn n k) become) ++ drop (bytesFor l) old) (sym count-bits) all;
       }

@@ -1,6 +1,6 @@
 -- Lists of calls: each is a feed on the session that the one before returned, with its own input and output, and each step is
 -- the feed's own `ensures` clause. So what is shown of a list is shown of the code.
-use Prim.Native.Nat.{ℕ}
+use Prim.Native.Nat.{ℕ, _+_}
 use mathlib.Core.Bool.{Bool, cond}
 use mathlib.Core.List.{List, [], _∷_, _++_}
 use lib.Dec.{eqb}
@@ -43,6 +43,11 @@ allFed (c ∷ cs) = fedBits c ++ allFed cs
 unfoldable pub allWritten : List Call → List Bool
 allWritten [] = []
 allWritten (c ∷ cs) = writtenBits c ++ allWritten cs
+
+-- The runs of the block cipher that the calls made, together.
+unfoldable pub allRuns : List Call → ℕ
+allRuns [] = 0
+allRuns (c ∷ cs) = c .result .runs + allRuns cs
 
 -- The plain machine after the same list.
 unfoldable pub machineAfter : Machine → List Call → Machine

@@ -1,4 +1,4 @@
--- Demands 1, 2 and 3 for the calls `open` and `feed`.
+-- Demands 1, 2 and 3 for the calls `open` and `feed`, and what the runs of the block cipher add up to.
 use Prim.Native.Nat.{ℕ, suc, _+_, _*_, _%_, _≤_, _<_}
 use mathlib.Core.Path.{_≡_}
 use mathlib.Core.Logic.{_↔_}
@@ -21,7 +21,7 @@ use Rattle.modes.specs.declared.session.Opened.{Opened}
 use Rattle.modes.specs.declared.session.Fed.{Fed}
 use Rattle.modes.specs.Sessions.{Arrays, OpenedBy, refusedSession, FedBy, sessionText, fedText}
 use Rattle.modes.specs.Machine.{Opening, Machine, machineStart, machineNumber, machineFeed}
-use Rattle.modes.specs.Lists.{Call, Run, allFed, allWritten, writtenBits, machineAfter, registers}
+use Rattle.modes.specs.Lists.{Call, Run, allFed, allWritten, writtenBits, allRuns, machineAfter, registers}
 
 -- ---- Demand 1
 
@@ -82,6 +82,12 @@ UndoneByTheOther =
     (mode : Mode) (dir : Direction) (n : ℕ) (key iv : List ℕ) (r q : Opened) (calls back : List Call) (t u : Session)
     → Bytes key → Bytes iv → OpenedBy mode dir n key iv r → r .number ≡ 0 → OpenedBy mode (other dir) n key iv q → q .number ≡ 0
     → Run (r .session) calls t → Run (q .session) back u → allFed back ≡ allWritten calls → allWritten back ≡ allFed calls
+
+-- ---- Request 01
+
+-- Over any list of feeds, refused ones among them, the runs of the block cipher add up to the units done.
+unfoldable pub RunsAddUp : Type 0
+RunsAddUp = (s t : Session) (calls : List Call) → Run s calls t → t .units ≡ s .units + allRuns calls
 
 -- ---- Demand 3
 

@@ -1,4 +1,4 @@
--- What open and feed give, for all arguments: the number, the session and every byte of the output.
+-- What open and feed give, for all arguments: the number, the session, every byte of the output, and the runs of the block cipher.
 use Prim.Native.Nat.{ℕ, _+_, _%_}
 use mathlib.Core.Path.{_≡_}
 use mathlib.Core.Bool.{Bool, true, false, cond, not}
@@ -73,6 +73,10 @@ fedSession s x =
       closed = not (eqb (length x % s .n) 0);
     }
 
+-- The runs of the block cipher that a text takes: one for each of its units, a short one included.
+unfoldable pub sessionRuns : Session → List Bool → ℕ
+sessionRuns s x = unitsIn (s .n) (length x)
+
 -- The output up to the place, the bytes of the text, the output after them.
 unfoldable pub written : List ℕ → ℕ → List Bool → List ℕ
 written out place x = take place out ++ pack x ++ drop (place + length (pack x)) out
@@ -81,3 +85,4 @@ pub record FedBy (s : Session) (input : List ℕ) (count : ℕ) (out : List ℕ)
   pub answer : r .number ≡ feedNumber s (length input) count (length out) place
   pub session : r .session ≡ cond (eqb (feedNumber s (length input) count (length out) place) 0) (fedSession s (fedText input count)) s
   pub output : after ≡ cond (eqb (feedNumber s (length input) count (length out) place) 0) (written out place (sessionText s (fedText input count))) out
+  pub runs : r .runs ≡ cond (eqb (feedNumber s (length input) count (length out) place) 0) (sessionRuns s (fedText input count)) 0

@@ -13,6 +13,7 @@ use Rattle.rules.specs.Lengths.{unitLengthOk, wholeUnits}
 use Rattle.questions.specs.Questions.{maxBits}
 use Rattle.units.specs.Turns.{Runs}
 use Rattle.rules.specs.Rules.{unitsIn, unitAt, outOf, nextOf, registerAt, worked}
+use Rattle.modes.specs.declared.work.Progress.{Progress}
 
 pub record Workable (mode : Mode) (n : ℕ) (input : List ℕ) (count : ℕ) (out : List ℕ) : Type 0 where
   pub unit-length : unitLengthOk mode n ≡ true
@@ -27,12 +28,14 @@ pub record RunsUnder (rounds : ℕ) (keys : List ℕ) (mode : Mode) (dir : Direc
   pub keys-bytes : Bytes keys
   pub runs : Runs f (Enc rounds keys) (Dec rounds keys) mode dir
 
--- Unit t by the block function f, from the register before it.
-pub record UnitWorked (f : List ℕ → List ℕ) (mode : Mode) (dir : Direction) (n : ℕ) (register input : List ℕ) (count : ℕ) (out : List ℕ) (t : ℕ) (result after : List ℕ) : Type 0 where
-  pub register-after : result ≡ nextOf f f mode dir register (unitAt n (take count (bits input)) t)
+-- Unit t by the block function f, in one run, from the register before it.
+pub record UnitWorked (f : List ℕ → List ℕ) (mode : Mode) (dir : Direction) (n : ℕ) (register input : List ℕ) (count : ℕ) (out : List ℕ) (t : ℕ) (r : Progress) (after : List ℕ) : Type 0 where
+  pub register-after : r .register ≡ nextOf f f mode dir register (unitAt n (take count (bits input)) t)
   pub out-after : after ≡ putBits out (t * n) (outOf f f mode dir register (unitAt n (take count (bits input)) t))
+  pub one-run : r .runs ≡ 1
 
--- All units.
-pub record Worked (mode : Mode) (dir : Direction) (n rounds : ℕ) (keys register input : List ℕ) (count : ℕ) (out result after : List ℕ) : Type 0 where
-  pub register-after : result ≡ registerAt (Enc rounds keys) (Dec rounds keys) mode dir n register (take count (bits input)) (unitsIn n count)
+-- All units, in a run each.
+pub record Worked (mode : Mode) (dir : Direction) (n rounds : ℕ) (keys register input : List ℕ) (count : ℕ) (out : List ℕ) (r : Progress) (after : List ℕ) : Type 0 where
+  pub register-after : r .register ≡ registerAt (Enc rounds keys) (Dec rounds keys) mode dir n register (take count (bits input)) (unitsIn n count)
   pub out-after : after ≡ pack (worked (Enc rounds keys) (Dec rounds keys) mode dir n register (take count (bits input))) ++ drop (bytesFor count) out
+  pub all-runs : r .runs ≡ unitsIn n count

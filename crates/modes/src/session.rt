@@ -17,7 +17,8 @@ pub struct Session {
     pub closed: bool,
 }
 
-// What an opening and a feed give: the number, 0 or that of the first question answered 'no', and the session.
+// What an opening and a feed give: the number, 0 or that of the first question answered 'no', and the session. Of a feed also the
+// runs of the block cipher that it made.
 pub struct Opened {
     pub number: u8,
     pub session: Session,
@@ -26,6 +27,7 @@ pub struct Opened {
 pub struct Fed {
     pub number: u8,
     pub session: Session,
+    pub runs: usize,
 }
 
 impl Session {
@@ -114,12 +116,15 @@ impl Session {
             return Fed {
                 number,
                 session: self,
+                runs: 0,
             };
         }
         let keys = self.keys;
         let n = self.n;
-        let next = work::work(self, input, bits, &mut out[place..]);
+        let worked = work::work(self, input, bits, &mut out[place..]);
+        let next = worked.register;
         let done = self.units + questions::units_in(n, bits) as u32;
+        let rest = bits % n;
         let session = Session {
             mode,
             direction,
@@ -128,8 +133,12 @@ impl Session {
             keys,
             register: next,
             units: done,
-            closed: bits % n != 0,
+            closed: rest != 0,
         };
-        Fed { number: 0, session }
+        Fed {
+            number: 0,
+            session,
+            runs: worked.runs,
+        }
     }
 }

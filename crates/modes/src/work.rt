@@ -10,6 +10,12 @@ ghost use Rattle.rules.specs.Rules.{unitsIn};
 ghost use Rattle.prepared.specs.Rounds.{blockBy};
 ghost use Rattle.modes.specs.Works.{Workable, RunsUnder, UnitWorked, Worked};
 
+// What units leave: R after them, and the runs of the block function that they took.
+pub struct Progress {
+    pub register: [u8; 16],
+    pub runs: usize,
+}
+
 fn smaller(a: usize, b: usize) -> usize
     ensures { λ r. ⌜ r ≡ min a b ⌝ }
 {
@@ -31,7 +37,7 @@ fn work_unit(
     bits: usize,
     out: &mut [u8],
     t: usize,
-) -> [u8; 16]
+) -> Progress
     requires { ⌜ Workable mode n (now input) bits (now out) × (t < unitsIn n bits) ⌝ }
     ensures { λ r. ⌜ UnitWorked (blockBy dec rounds (now (table .entry)) (now (last .entry)) (now (words .entry))) mode direction n register (now (input .entry)) bits (now (out .entry)) t r (now (out .exit)) ⌝ }
 {
@@ -53,10 +59,14 @@ fn work_unit(
     );
     let text = step.out;
     bits::put_bits(out, at, text, size);
-    step.register
+    let next = step.register;
+    Progress {
+        register: next,
+        runs: step.runs,
+    }
 }
 
-// Works all units, one after the other, by what was prepared.
+// Works all units, one after the other, by what was prepared, and adds up their runs.
 fn work_units<'a>(
     session: Session,
     dec: bool,
@@ -66,18 +76,22 @@ fn work_units<'a>(
     input: &[u8],
     bits: usize,
     out: &mut [u8],
-) -> [u8; 16]
+) -> Progress
     requires { ⌜ Workable (session .mode) (session .n) (now input) bits (now out) × RunsUnder (session .rounds) (session .keys) (session .mode) (session .direction) (blockBy dec (session .rounds) (now table) (now last) (now words)) ⌝ }
     ensures { λ r. ⌜ Worked (session .mode) (session .direction) (session .n) (session .rounds) (session .keys) (session .register) (now (input .entry)) bits (now (out .entry)) r (now (out .exit)) ⌝ }
 {
     let mode = session.mode;
     let direction = session.direction;
     let units = questions::units_in(session.n, bits);
-    let mut moved = session;
+    let first = session.register;
+    let mut done = Progress {
+        register: first,
+        runs: 0,
+    };
     let mut t: usize = 0;
     while t < units {
-        let before = moved.register;
-        let next = work_unit(
+        let before = done.register;
+        let unit = work_unit(
             mode,
             direction,
             session.n,
@@ -92,15 +106,20 @@ fn work_units<'a>(
             out,
             t,
         );
-        moved.register = next;
+        let next = unit.register;
+        let runs = done.runs + unit.runs;
+        done = Progress {
+            register: next,
+            runs,
+        };
         t += 1;
     }
-    moved.register
+    done
 }
 
 // Works the first `bits` bits of `input`, writes what they become from the first bit of `out` on, and gives the session's register
-// after them. What the block function needs is prepared once.
-pub fn work(session: Session, input: &[u8], bits: usize, out: &mut [u8]) -> [u8; 16]
+// after them, with the runs of the block function. What that needs is prepared once.
+pub fn work(session: Session, input: &[u8], bits: usize, out: &mut [u8]) -> Progress
     requires { ⌜ Workable (session .mode) (session .n) (now input) bits (now out) × (roundsOk (session .rounds) ≡ true) ⌝ }
     ensures { λ r. ⌜ Worked (session .mode) (session .direction) (session .n) (session .rounds) (session .keys) (session .register) (now (input .entry)) bits (now (out .entry)) r (now (out .exit)) ⌝ }
 {

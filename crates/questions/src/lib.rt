@@ -1,11 +1,12 @@
 // Document 01, "Questions before work": each function answers one question, or gives the number of a call's first 'no'.
 use rules::Mode;
 ghost use mathlib.Core.Path.{_≡_};
-ghost use Prim.Native.Nat.{_<_, _≤_};
+ghost use Prim.Native.Nat.{_%_};
+ghost use lib.Dec.{eqb};
 ghost use Rattle.bits.specs.Texts.{bytesFor};
 ghost use Rattle.rules.specs.Lengths.{wholeUnits};
 ghost use Rattle.rules.specs.Rules.{unitsIn};
-ghost use Rattle.questions.specs.Questions.{ask, ivOk, sessionOk, bitsOk, roomOk, unitsOk, maxBits, feedQuestions};
+ghost use Rattle.questions.specs.Questions.{ask, ivOk, sessionOk, bitsOk, roomOk, unitsOk, feedQuestions};
 
 // The block, in bytes.
 pub const BLOCK: usize = 16;
@@ -56,15 +57,24 @@ pub fn bits_ok(limit: usize, bytes: usize, bits: usize) -> bool
     bits / 8 < bytes
 }
 
+// Are the bits a multiple of n? Of 0 only 0 is one.
+fn multiple(n: usize, bits: usize) -> bool
+    ensures { λ r. ⌜ r ≡ eqb (bits % n) 0 ⌝ }
+{
+    if n == 0 {
+        return bits == 0;
+    }
+    bits % n == 0
+}
+
 // Question 7.
-fn whole_units(mode: Mode, n: usize, bits: usize) -> bool
-    requires { ⌜ 0 < n ⌝ }
+pub fn whole_units(mode: Mode, n: usize, bits: usize) -> bool
     ensures { λ r. ⌜ r ≡ wholeUnits mode n bits ⌝ }
 {
     match mode {
-        Mode::Ecb => bits % n == 0,
-        Mode::Cbc => bits % n == 0,
-        Mode::Cfb => bits % n == 0,
+        Mode::Ecb => multiple(n, bits),
+        Mode::Cbc => multiple(n, bits),
+        Mode::Cfb => multiple(n, bits),
         Mode::Ofb => true,
         Mode::Ctr => true,
     }
@@ -88,14 +98,6 @@ fn units_ok(done: u32, new: usize) -> bool
     new <= (MAX_UNITS - done) as usize
 }
 
-// How many bytes so many bits need, rounded up.
-fn bytes_for(bits: usize) -> usize
-    requires { ⌜ bits ≤ maxBits ⌝ }
-    ensures { λ r. ⌜ r ≡ bytesFor bits ⌝ }
-{
-    (bits + 7) / 8
-}
-
 // How many units so many bits have, a short last one included.
 pub fn units_in(n: usize, bits: usize) -> usize
     ensures { λ r. ⌜ r ≡ unitsIn n bits ⌝ }
@@ -108,6 +110,13 @@ pub fn units_in(n: usize, bits: usize) -> usize
         return whole;
     }
     whole + 1
+}
+
+// How many bytes so many bits need, rounded up.
+pub fn bytes_for(bits: usize) -> usize
+    ensures { λ r. ⌜ r ≡ bytesFor bits ⌝ }
+{
+    units_in(8, bits)
 }
 
 // A feed's number, questions 4 to 9 in order.

@@ -9,6 +9,7 @@ use crate::words::same;
 pub enum Command {
     Open,
     Feed,
+    Forecast,
     Pad,
     Unpad,
     Neighbour,
@@ -34,6 +35,9 @@ fn named(line: &[u8]) -> Command {
     }
     if is(name, count, b"feed", 6) {
         return Command::Feed;
+    }
+    if is(name, count, b"forecast", 4) {
+        return Command::Forecast;
     }
     if is(name, count, b"pad", 6) {
         return Command::Pad;
@@ -83,6 +87,7 @@ pub fn run(
     match named(line) {
         Command::Open => sessions::open(line, text, state),
         Command::Feed => sessions::feed(line, input, out, text, state),
+        Command::Forecast => state.with_end(sessions::forecast(line, text, end)),
         Command::Pad => state.with_end(texts::pad(line, input, out, text, end)),
         Command::Unpad => state.with_end(texts::unpad(line, input, text, end)),
         Command::Neighbour => state.with_end(texts::neighbour(line, input, text, end)),

@@ -3,7 +3,8 @@
 // decimal; FILL is the byte that the output holds before the call.
 //
 //     open MODE N E|D KEY IV                  NUMBER
-//     feed BITS OUTLEN PLACE FILL INPUT       NUMBER OUT R UNITS CLOSED
+//     feed BITS OUTLEN PLACE FILL INPUT       NUMBER OUT R UNITS CLOSED RUNS
+//     forecast MODE N BITS                    NUMBER BYTES RUNS
 //     pad BITS OUTLEN PLACE FILL INPUT        NUMBER LENGTH OUT
 //     unpad BITS INPUT                        NUMBER LENGTH
 //     neighbour IV TEXT J                     the part

@@ -1,4 +1,4 @@
-// The commands open and feed.
+// The commands open, feed and forecast.
 use crate::arguments::Output;
 use crate::arguments::TextWords;
 use crate::arguments::text_words;
@@ -15,6 +15,7 @@ use grammar::DirectionWord;
 use grammar::ModeWord;
 use grammar::direction_word;
 use grammar::mode_word;
+use modes::Fed;
 use modes::Session;
 use rules::Direction;
 use rules::Mode;
@@ -68,24 +69,16 @@ pub fn open(line: &[u8], text: &mut [u8; 65536], state: State) -> State {
     open_under(mode, direction, n, key, iv, text, state)
 }
 
-// What a feed gave: its number, the output, and the session's R, units and closing.
-fn print_fed(
-    text: &mut [u8; 65536],
-    end: usize,
-    number: u8,
-    out: &[u8],
-    session: Session,
-) -> usize {
-    let mut at = print::number(text, end, number as u64, b' ');
+// What a feed gave: its number, the output, the session's R, units and closing, and the runs of the block cipher.
+fn print_fed(text: &mut [u8; 65536], end: usize, fed: Fed, out: &[u8]) -> usize {
+    let mut at = print::number(text, end, fed.number as u64, b' ');
     at = print::bytes(text, at, out, b' ');
+    let session = fed.session;
     let register = session.register;
     at = print::block(text, at, register, b' ');
     at = print::number(text, at, session.units as u64, b' ');
-    if session.closed {
-        print::label(text, at, b"1", b'\n')
-    } else {
-        print::label(text, at, b"0", b'\n')
-    }
+    at = print::number(text, at, session.closed as u64, b' ');
+    print::number(text, at, fed.runs as u64, b'\n')
 }
 
 fn feed_into(
@@ -99,8 +92,8 @@ fn feed_into(
     let room = fill(out, output.size, output.fill);
     let session = state.session;
     let fed = session.feed(input, bits, &mut out[..room], output.place);
+    let end = print_fed(text, state.end, fed, first(out, room));
     let next = fed.session;
-    let end = print_fed(text, state.end, fed.number, first(out, room), next);
     state.with_session(next, end)
 }
 
@@ -121,4 +114,21 @@ pub fn feed(
         return bad(state, text);
     };
     feed_into(first(input, count), bits, out, output, text, state)
+}
+
+// forecast MODE N BITS
+pub fn forecast(line: &[u8], text: &mut [u8; 65536], end: usize) -> usize {
+    let ModeWord::Named(mode) = mode_word(word(line, 1)) else {
+        return print::bad(text, end);
+    };
+    let Number::Value(n) = decimal(word(line, 2)) else {
+        return print::bad(text, end);
+    };
+    let Number::Value(bits) = decimal(word(line, 3)) else {
+        return print::bad(text, end);
+    };
+    let cost = forecast::forecast(mode, n, bits);
+    let mut at = print::number(text, end, cost.number as u64, b' ');
+    at = print::number(text, at, cost.bytes as u64, b' ');
+    print::number(text, at, cost.runs as u64, b'\n')
 }

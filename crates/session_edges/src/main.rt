@@ -37,7 +37,7 @@ fn open(name: &[u8], mode: Mode, n: usize, key: &[u8], iv: &[u8]) {
     show::end();
 }
 
-// A feed into 40 bytes of ee: its number, the output, and the session's R, units and closing.
+// A feed into 40 bytes of ee: its number, the output, the session's R and units, the runs, and the closing.
 fn feed(name: &[u8], session: Session, input: &[u8], bits: usize, place: usize) -> Session {
     let mut out = [0xeeu8; 40];
     let fed = session.feed(input, bits, &mut out, place);
@@ -48,6 +48,7 @@ fn feed(name: &[u8], session: Session, input: &[u8], bits: usize, place: usize) 
     let register = next.register;
     show::block(register);
     show::number(next.units as u64);
+    show::number(fed.runs as u64);
     if next.closed {
         show::label(b" closed");
     }
@@ -217,7 +218,7 @@ fn limits(input: &[u8]) {
     );
 }
 
-// A feed into zero bytes, out of a byte more than the largest feed has; its number and the output's last bytes.
+// A feed into zero bytes, out of a byte more than the largest feed has; its number, the output's last bytes and the runs.
 fn large_feed(name: &[u8], bits: usize) {
     let iv = IV;
     let input = [0u8; BYTES];
@@ -227,6 +228,7 @@ fn large_feed(name: &[u8], bits: usize) {
     show::label(name);
     show::number(fed.number as u64);
     show::bytes(&out[BYTES - 17..BYTES]);
+    show::number(fed.runs as u64);
     show::end();
 }
 

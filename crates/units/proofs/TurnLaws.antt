@@ -24,7 +24,9 @@ use Rattle.rules.specs.declared.Direction.the-variants.{Encrypt, Decrypt}
 use Rattle.rules.specs.declared.Direction.{Direction}
 use Rattle.rules.specs.Rules.{msb, mask, next, cipher, plain, outOf, nextOf}
 use Rattle.rules.proofs.Units.{UnitLength}
-use Rattle.units.specs.Turns.{decrypting, runsDec, Runs, Turned, unitSizeOk}
+use Rattle.units.specs.declared.unit.Ran.{Ran}
+use Rattle.units.specs.declared.unit.Step.{Step}
+use Rattle.units.specs.Turns.{decrypting, runsDec, Runs, Counted, Turned, unitSizeOk}
 
 -- ---- a whole block
 
@@ -56,45 +58,57 @@ shifted {register} {segment} size hr hs le =
 
 -- ---- the modes
 
-module _ (f : List ℕ → List ℕ) {register unit : List ℕ} (hr : Block register) (hu : Block unit) where
-  pub ecb-turned : (dir : Direction) {out : List ℕ} → Block out → out ≡ f unit → Turned f Ecb dir register unit 128 out register
+-- A unit's result, by the run that was made for it.
+abbrev stepBy : Ran → List ℕ → List ℕ → Step
+stepBy ran out after = record { out = out; register = after; runs = ran .runs }
+
+module _ (f : List ℕ → List ℕ) {register unit : List ℕ} (hr : Block register) (hu : Block unit) {ran : Ran} (hb : Block (ran .block)) where
+  by-run : {block : List ℕ} {mode : Mode} {dir : Direction} {size : ℕ} {out after : List ℕ} → Counted f block ran
+      → take size (bits out) ≡ outOf f f mode dir register (take size (bits unit)) → after ≡ nextOf f f mode dir register (take size (bits unit))
+      → Turned f mode dir register unit size (stepBy ran out after)
+  by-run run text next = record { out-bits = text; register-after = next; one-run = run .one-run }
+
+  pub ecb-turned : (dir : Direction) → Counted f unit ran → Turned f Ecb dir register unit 128 (stepBy ran (ran .block) register)
   unfolding outOf nextOf cipher plain next
-  ecb-turned Encrypt ho e = record { out-bits = whole ho ∙ ap bits (e ∙ ap f (sym (packed hu))); register-after = refl }
-  ecb-turned Decrypt ho e = record { out-bits = whole ho ∙ ap bits (e ∙ ap f (sym (packed hu))); register-after = refl }
+  ecb-turned Encrypt run = by-run run (whole hb ∙ ap bits (run .made ∙ ap f (sym (packed hu)))) refl
+  ecb-turned Decrypt run = by-run run (whole hb ∙ ap bits (run .made ∙ ap f (sym (packed hu)))) refl
 
-  pub cbc-encrypted : {out : List ℕ} → Block out → out ≡ f (xorBytes unit register) → Turned f Cbc Encrypt register unit 128 out out
+  pub cbc-encrypted : {added : List ℕ} → added ≡ xorBytes unit register → Counted f added ran
+      → Turned f Cbc Encrypt register unit 128 (stepBy ran (ran .block) (ran .block))
   unfolding outOf nextOf cipher next
-  cbc-encrypted {out} ho e =
-      let same : out ≡ f (xorBytes (pack (take 128 (bits unit))) register) = e ∙ ap (λ u. f (xorBytes u register)) (sym (packed hu)) in
-      record { out-bits = whole ho ∙ ap bits same; register-after = sym (block-pack-bits ho) ∙ ap (λ b. pack (bits b)) same }
+  cbc-encrypted e run =
+      let same : ran .block ≡ f (xorBytes (pack (take 128 (bits unit))) register) = run .made ∙ ap f (e ∙ ap (λ u. xorBytes u register) (sym (packed hu))) in
+      by-run run (whole hb ∙ ap bits same) (sym (block-pack-bits hb) ∙ ap (λ b. pack (bits b)) same)
 
-  pub cbc-decrypted : {out : List ℕ} → Block out → out ≡ xorBytes (f unit) register → Turned f Cbc Decrypt register unit 128 out unit
+  pub cbc-decrypted : {out : List ℕ} → Block out → Counted f unit ran → out ≡ xorBytes (ran .block) register
+      → Turned f Cbc Decrypt register unit 128 (stepBy ran out unit)
   unfolding outOf nextOf plain next
-  cbc-decrypted ho e =
-      record { out-bits = whole ho ∙ ap bits (e ∙ ap (λ u. xorBytes (f u) register) (sym (packed hu))); register-after = sym (packed hu) }
+  cbc-decrypted ho run e = by-run run (whole ho ∙ ap bits (e ∙ ap (λ b. xorBytes b register) (run .made ∙ ap f (sym (packed hu))))) (sym (packed hu))
 
   -- in CFB, OFB and CTR the first bits of the register's block are added
-  module _ (size : ℕ) (le : size ≤ 128) {block out : List ℕ} (hb : Block block) (e : block ≡ f register) (g : out ≡ xorBytes unit block) where
+  module _ (size : ℕ) (le : size ≤ 128) (run : Counted f register ran) {out : List ℕ} (g : out ≡ xorBytes unit (ran .block)) where
     text : take size (bits out) ≡ mask (take size (bits unit)) (f register)
-    text = ap (λ b. take size (bits b)) g ∙ masked size hu hb le ∙ ap (mask (take size (bits unit))) e
+    text = ap (λ b. take size (bits b)) g ∙ masked size hu hb le ∙ ap (mask (take size (bits unit))) (run .made)
 
-    pub cfb-encrypted : {after : List ℕ} → Block out → after ≡ packTo 16 (drop size (bits register) ++ take size (bits out)) → Turned f Cfb Encrypt register unit size out after
+    pub cfb-encrypted : {after : List ℕ} → Block out → after ≡ packTo 16 (drop size (bits register) ++ take size (bits out))
+        → Turned f Cfb Encrypt register unit size (stepBy ran out after)
     unfolding outOf nextOf cipher next
-    cfb-encrypted ho h = record { out-bits = text; register-after = h ∙ shifted size hr ho le ∙ ap (λ c. pack (shiftIn (bits register) c)) text }
+    cfb-encrypted ho h = by-run run text (h ∙ shifted size hr ho le ∙ ap (λ c. pack (shiftIn (bits register) c)) text)
 
-    pub cfb-decrypted : {after : List ℕ} → after ≡ packTo 16 (drop size (bits register) ++ take size (bits unit)) → Turned f Cfb Decrypt register unit size out after
+    pub cfb-decrypted : {after : List ℕ} → after ≡ packTo 16 (drop size (bits register) ++ take size (bits unit))
+        → Turned f Cfb Decrypt register unit size (stepBy ran out after)
     unfolding outOf nextOf plain next
-    cfb-decrypted h = record { out-bits = text; register-after = h ∙ shifted size hr hu le }
+    cfb-decrypted h = by-run run text (h ∙ shifted size hr hu le)
 
-    pub ofb-turned : (dir : Direction) → Turned f Ofb dir register unit size out block
+    pub ofb-turned : (dir : Direction) → Turned f Ofb dir register unit size (stepBy ran out (ran .block))
     unfolding outOf nextOf cipher plain next
-    ofb-turned Encrypt = record { out-bits = text; register-after = e }
-    ofb-turned Decrypt = record { out-bits = text; register-after = e }
+    ofb-turned Encrypt = by-run run text (run .made)
+    ofb-turned Decrypt = by-run run text (run .made)
 
-    pub ctr-turned : (dir : Direction) {after : List ℕ} → after ≡ increment register → Turned f Ctr dir register unit size out after
+    pub ctr-turned : (dir : Direction) {after : List ℕ} → after ≡ increment register → Turned f Ctr dir register unit size (stepBy ran out after)
     unfolding outOf nextOf cipher plain next
-    ctr-turned Encrypt h = record { out-bits = text; register-after = h }
-    ctr-turned Decrypt h = record { out-bits = text; register-after = h }
+    ctr-turned Encrypt h = by-run run text h
+    ctr-turned Decrypt h = by-run run text h
 
 -- ---- a unit's bits, by the mode
 

@@ -12,6 +12,8 @@ use Rattle.rules.specs.declared.Mode.the-variants.{Ecb, Cbc, Cfb, Ofb, Ctr}
 use Rattle.rules.specs.declared.Direction.{Direction}
 use Rattle.rules.specs.declared.Direction.the-variants.{Encrypt, Decrypt}
 use Rattle.rules.specs.Rules.{outOf, nextOf}
+use Rattle.units.specs.declared.unit.Ran.{Ran}
+use Rattle.units.specs.declared.unit.Step.{Step}
 
 -- How many bits a unit may have: whole blocks in ECB and CBC, up to a block elsewhere.
 unfoldable pub unitSizeOk : Mode → ℕ → Bool
@@ -37,7 +39,13 @@ runsDec Ctr dir = false
 pub record Runs (f enc dec : List ℕ → List ℕ) (mode : Mode) (dir : Direction) : Type 0 where
   pub same : (b : List ℕ) → Block b → f b ≡ cond (runsDec mode dir) (dec b) (enc b)
 
--- A unit by the block function f, whichever of the two it is.
-pub record Turned (f : List ℕ → List ℕ) (mode : Mode) (dir : Direction) (register unit : List ℕ) (size : ℕ) (out after : List ℕ) : Type 0 where
-  pub out-bits : take size (bits out) ≡ outOf f f mode dir register (take size (bits unit))
-  pub register-after : after ≡ nextOf f f mode dir register (take size (bits unit))
+-- One run of the block function f.
+pub record Counted (f : List ℕ → List ℕ) (block : List ℕ) (r : Ran) : Type 0 where
+  pub made : r .block ≡ f block
+  pub one-run : r .runs ≡ 1
+
+-- A unit by the block function f, whichever of the two it is, in one run.
+pub record Turned (f : List ℕ → List ℕ) (mode : Mode) (dir : Direction) (register unit : List ℕ) (size : ℕ) (r : Step) : Type 0 where
+  pub out-bits : take size (bits (r .out)) ≡ outOf f f mode dir register (take size (bits unit))
+  pub register-after : r .register ≡ nextOf f f mode dir register (take size (bits unit))
+  pub one-run : r .runs ≡ 1

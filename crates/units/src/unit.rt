@@ -1,5 +1,5 @@
-// One unit: what each mode makes of it, and the register after it. A unit stands left-aligned in 16 bytes. Each unit is one run
-// of one block function, Enc or Dec, by what was prepared for it.
+// One unit: what each mode makes of it, the register after it, and the runs of the block function that it took. A unit stands
+// left-aligned in 16 bytes. The block function is Enc or Dec, by what was prepared for it.
 use rules::Direction;
 use rules::Mode;
 ghost use mathlib.Core.Path.{_≡_};
@@ -9,11 +9,18 @@ ghost use Prim.Native.Nat.{_≤_};
 ghost use lib.ListN.{take, drop};
 ghost use Rattle.bits.specs.Texts.{bits, packTo};
 ghost use Rattle.prepared.specs.Rounds.{blockBy};
-ghost use Rattle.units.specs.Turns.{decrypting, runsDec, Turned, unitSizeOk};
+ghost use Rattle.units.specs.Turns.{decrypting, runsDec, Counted, Turned, unitSizeOk};
 
 pub struct Step {
     pub out: [u8; 16],
     pub register: [u8; 16],
+    pub runs: usize,
+}
+
+// What the block function made of a block, and the runs that it took.
+struct Ran {
+    block: [u8; 16],
+    runs: usize,
 }
 
 fn decrypts(direction: Direction) -> bool
@@ -38,6 +45,24 @@ pub fn runs_dec(mode: Mode, direction: Direction) -> bool
     }
 }
 
+// Runs the block function once, and counts it. Nothing else in the sessions runs it.
+fn run(
+    dec: bool,
+    rounds: usize,
+    table: &[u32; 1024],
+    last: &[u8; 256],
+    words: &[u32; 60],
+    block: [u8; 16],
+) -> Ran
+    ensures { λ r. ⌜ Counted (blockBy dec rounds (now (table .entry)) (now (last .entry)) (now (words .entry))) block r ⌝ }
+{
+    let made = prepared::run(dec, rounds, table, last, words, block);
+    Ran {
+        block: made,
+        runs: 1,
+    }
+}
+
 fn ecb(
     direction: Direction,
     dec: bool,
@@ -48,10 +73,15 @@ fn ecb(
     register: [u8; 16],
     unit: [u8; 16],
 ) -> Step
-    ensures { λ r. ⌜ Turned (blockBy dec rounds (now (table .entry)) (now (last .entry)) (now (words .entry))) Mode.Ecb direction register unit 128 (r .out) (r .register) ⌝ }
+    ensures { λ r. ⌜ Turned (blockBy dec rounds (now (table .entry)) (now (last .entry)) (now (words .entry))) Mode.Ecb direction register unit 128 r ⌝ }
 {
-    let out = prepared::run(dec, rounds, table, last, words, unit);
-    Step { out, register }
+    let made = run(dec, rounds, table, last, words, unit);
+    let out = made.block;
+    Step {
+        out,
+        register,
+        runs: made.runs,
+    }
 }
 
 fn cbc(
@@ -64,11 +94,11 @@ fn cbc(
     register: [u8; 16],
     unit: [u8; 16],
 ) -> Step
-    ensures { λ r. ⌜ Turned (blockBy dec rounds (now (table .entry)) (now (last .entry)) (now (words .entry))) Mode.Cbc direction register unit 128 (r .out) (r .register) ⌝ }
+    ensures { λ r. ⌜ Turned (blockBy dec rounds (now (table .entry)) (now (last .entry)) (now (words .entry))) Mode.Cbc direction register unit 128 r ⌝ }
 {
     match direction {
         Direction::Encrypt => {
-            let cipher = prepared::run(
+            let ran = run(
                 dec,
                 rounds,
                 table,
@@ -76,19 +106,21 @@ fn cbc(
                 words,
                 bits::xor_block(unit, register),
             );
+            let cipher = ran.block;
             Step {
                 out: cipher,
                 register: cipher,
+                runs: ran.runs,
             }
         }
         Direction::Decrypt => {
-            let plain = bits::xor_block(
-                prepared::run(dec, rounds, table, last, words, unit),
-                register,
-            );
+            let ran = run(dec, rounds, table, last, words, unit);
+            let block = ran.block;
+            let plain = bits::xor_block(block, register);
             Step {
                 out: plain,
                 register: unit,
+                runs: ran.runs,
             }
         }
     }
@@ -114,18 +146,18 @@ fn cfb(
     size: usize,
 ) -> Step
     requires { ⌜ size ≤ 128 ⌝ }
-    ensures { λ r. ⌜ Turned (blockBy dec rounds (now (table .entry)) (now (last .entry)) (now (words .entry))) Mode.Cfb direction register unit size (r .out) (r .register) ⌝ }
+    ensures { λ r. ⌜ Turned (blockBy dec rounds (now (table .entry)) (now (last .entry)) (now (words .entry))) Mode.Cfb direction register unit size r ⌝ }
 {
-    let out = bits::xor_block(
-        unit,
-        prepared::run(dec, rounds, table, last, words, register),
-    );
+    let ran = run(dec, rounds, table, last, words, register);
+    let block = ran.block;
+    let out = bits::xor_block(unit, block);
     match direction {
         Direction::Encrypt => {
             let next = shifted(register, out, size);
             Step {
                 out,
                 register: next,
+                runs: ran.runs,
             }
         }
         Direction::Decrypt => {
@@ -133,6 +165,7 @@ fn cfb(
             Step {
                 out,
                 register: next,
+                runs: ran.runs,
             }
         }
     }
@@ -150,13 +183,15 @@ fn ofb(
     size: usize,
 ) -> Step
     requires { ⌜ size ≤ 128 ⌝ }
-    ensures { λ r. ⌜ Turned (blockBy dec rounds (now (table .entry)) (now (last .entry)) (now (words .entry))) Mode.Ofb direction register unit size (r .out) (r .register) ⌝ }
+    ensures { λ r. ⌜ Turned (blockBy dec rounds (now (table .entry)) (now (last .entry)) (now (words .entry))) Mode.Ofb direction register unit size r ⌝ }
 {
-    let next = prepared::run(dec, rounds, table, last, words, register);
+    let ran = run(dec, rounds, table, last, words, register);
+    let next = ran.block;
     let out = bits::xor_block(unit, next);
     Step {
         out,
         register: next,
+        runs: ran.runs,
     }
 }
 
@@ -172,16 +207,16 @@ fn ctr(
     size: usize,
 ) -> Step
     requires { ⌜ size ≤ 128 ⌝ }
-    ensures { λ r. ⌜ Turned (blockBy dec rounds (now (table .entry)) (now (last .entry)) (now (words .entry))) Mode.Ctr direction register unit size (r .out) (r .register) ⌝ }
+    ensures { λ r. ⌜ Turned (blockBy dec rounds (now (table .entry)) (now (last .entry)) (now (words .entry))) Mode.Ctr direction register unit size r ⌝ }
 {
-    let out = bits::xor_block(
-        unit,
-        prepared::run(dec, rounds, table, last, words, register),
-    );
+    let ran = run(dec, rounds, table, last, words, register);
+    let block = ran.block;
+    let out = bits::xor_block(unit, block);
     let next = bits::increment_block(register);
     Step {
         out,
         register: next,
+        runs: ran.runs,
     }
 }
 
@@ -199,7 +234,7 @@ fn by_mode(
     size: usize,
 ) -> Step
     requires { ⌜ unitSizeOk mode size ≡ true ⌝ }
-    ensures { λ r. ⌜ Turned (blockBy dec rounds (now (table .entry)) (now (last .entry)) (now (words .entry))) mode direction register unit size (r .out) (r .register) ⌝ }
+    ensures { λ r. ⌜ Turned (blockBy dec rounds (now (table .entry)) (now (last .entry)) (now (words .entry))) mode direction register unit size r ⌝ }
 {
     match mode {
         Mode::Ecb => ecb(direction, dec, rounds, table, last, words, register, unit),
@@ -255,7 +290,7 @@ pub fn turn(
     size: usize,
 ) -> Step
     requires { ⌜ unitSizeOk mode size ≡ true ⌝ }
-    ensures { λ r. ⌜ Turned (blockBy dec rounds (now (table .entry)) (now (last .entry)) (now (words .entry))) mode direction register (packTo 16 (take size (drop offset (bits (now (part .entry)))))) size (r .out) (r .register) ⌝ }
+    ensures { λ r. ⌜ Turned (blockBy dec rounds (now (table .entry)) (now (last .entry)) (now (words .entry))) mode direction register (packTo 16 (take size (drop offset (bits (now (part .entry)))))) size r ⌝ }
 {
     let unit = bits::window(part, offset, size);
     by_mode(

@@ -1,15 +1,10 @@
--- The code is the definition. Assumes nothing.
+-- A byte is a unit of 8 bits. Assumes nothing.
 use Rattle.bits.specs.Texts.{bytesFor}
+use Rattle.rules.specs.Rules.{unitsIn}
 use borrow.Author.Needs.{needs}
 use Rattle.questions.proofs.bytes_for.Statement.{statement}
 use Rattle.questions.proofs.bytes_for.Tie as tie
 
-add-result : tie.Need-add-result
-add-result c = search needs
-
-returns : tie.Need-returns
-unfolding bytesFor
-returns c = search needs
-
 pub bytes-for-spec : {M : Type 1} → statement M
-bytes-for-spec = tie.close (tie.spec add-result returns)
+unfolding bytesFor unitsIn
+bytes-for-spec = tie.close (tie.spec (λ c κs. search needs) (λ c. c .units-in .ensures))

@@ -7,9 +7,7 @@ use borrow.Author.Tests.{not-true, not-false}
 use Rattle.bits.specs.Texts.{bytesFor}
 use Rattle.rules.specs.Lengths.{wholeUnits}
 use Rattle.rules.specs.Rules.{unitsIn}
-use Rattle.rules.proofs.Taken.{unit-bounds}
 use Rattle.questions.specs.Questions.{ask, sessionOk, bitsOk, roomOk, unitsOk, maxBits, feedQuestions}
-use Rattle.questions.proofs.QuestionLaws.{session-unit, bits-small}
 use borrow.Author.Needs.{needs}
 use Rattle.questions.proofs.feed_number.Statement.{statement}
 use Rattle.questions.proofs.feed_number.Tie as tie
@@ -81,7 +79,7 @@ unfolding ask feedQuestions
 returns-3 c = let p = c .before .before in rw (yes4 (past4 p), p .if2 .left, sym (c .before .bits-ok .ensures) ∙ not-true _ (c .if3 .taken))
 
 whole-units-requires : tie.Need-whole-units-requires
-whole-units-requires c κs = unit-bounds _ _ (session-unit _ _ _ (yes4 (past4 (past5 c)))) .0
+whole-units-requires c κs = search needs
 
 returns-4 : tie.Need-returns-4
 unfolding ask feedQuestions
@@ -90,7 +88,7 @@ returns-4 c =
     rw (yes4 (past4 (past5 p)), past5 p .if2 .left, yes6 p, sym (c .before .whole-units .ensures) ∙ not-true _ (c .if4 .taken))
 
 bytes-for-requires : tie.Need-bytes-for-requires
-bytes-for-requires c κs = bits-small _ _ _ (yes6 (past6 c))
+bytes-for-requires c κs = search needs
 
 room-ok-requires : tie.Need-room-ok-requires
 room-ok-requires c κs = search needs

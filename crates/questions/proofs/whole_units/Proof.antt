@@ -8,20 +8,20 @@ use Rattle.questions.proofs.whole_units.Tie as tie
 enum-told : tie.Need-enum-told
 enum-told c = search needs
 
-rem-result : tie.Need-rem-result
-rem-result c = search needs
+multiple-requires : tie.Need-multiple-requires
+multiple-requires c κs = search needs
 
 enum-told-2 : tie.Need-enum-told-2
 enum-told-2 c = search needs
 
-rem-result-2 : tie.Need-rem-result-2
-rem-result-2 c = search needs
+multiple-requires-2 : tie.Need-multiple-requires-2
+multiple-requires-2 c κs = search needs
 
 enum-told-3 : tie.Need-enum-told-3
 enum-told-3 c = search needs
 
-rem-result-3 : tie.Need-rem-result-3
-rem-result-3 c = search needs
+multiple-requires-3 : tie.Need-multiple-requires-3
+multiple-requires-3 c κs = search needs
 
 enum-told-4 : tie.Need-enum-told-4
 enum-told-4 c = search needs
@@ -31,15 +31,15 @@ enum-told-5 c = search needs
 
 returns : tie.Need-returns
 unfolding wholeUnits
-returns c = rw (c .enum-told .given .1) refl
+returns c = rw (c .before .enum-told .given .1) (c .multiple .ensures)
 
 returns-2 : tie.Need-returns-2
 unfolding wholeUnits
-returns-2 c = rw (c .enum-told2 .given .1) refl
+returns-2 c = rw (c .before .enum-told2 .given .1) (c .multiple2 .ensures)
 
 returns-3 : tie.Need-returns-3
 unfolding wholeUnits
-returns-3 c = rw (c .enum-told3 .given .1) refl
+returns-3 c = rw (c .before .enum-told3 .given .1) (c .multiple3 .ensures)
 
 returns-4 : tie.Need-returns-4
 unfolding wholeUnits
@@ -54,11 +54,11 @@ whole-units-spec =
     tie.close
     (tie.spec
     enum-told
-    rem-result
+    multiple-requires
     enum-told-2
-    rem-result-2
+    multiple-requires-2
     enum-told-3
-    rem-result-3
+    multiple-requires-3
     enum-told-4
     enum-told-5
     returns

@@ -28,7 +28,7 @@ unfolding held
 returns-2 c =
     let f = c .before .before .before .before in
     let d = f .before .before .before .before .before in
-    fed _ _ _ _ _ _ (omega arith) (rw (d .before .mode-of .ensures, d .direction-of .ensures)) (f .feed .ensures)
+    fed _ _ _ _ _ _ {r = f .feed .result} (omega arith) (rw (d .before .mode-of .ensures, d .direction-of .ensures)) (f .feed .ensures)
 
 pub conguraha-feed-spec : {M : Type 1} → statement M
 conguraha-feed-spec =

@@ -13,20 +13,20 @@ use Rattle.modes.proofs.work.work_units.Statement.{statement}
 use Rattle.modes.proofs.work.work_units.Tie as tie
 
 abbrev Inv-loop : tie.InvT-loop
-Inv-loop session dec table last words input bits out₀ mode direction units moved₀ t₀ out moved t = Through mode direction (session .n) (session .rounds) (session .keys) (session .register) input bits out₀ t (moved .register) out × (t ≤ units)
+Inv-loop session dec table last words input bits out₀ mode direction units done₀ t₀ out done t = Through mode direction (session .n) (session .rounds) (session .keys) (session .register) input bits out₀ t done out × (t ≤ units)
 
 abbrev μ-loop : tie.MeasureT-loop
-μ-loop session dec table last words input bits out₀ mode direction units moved₀ t₀ out moved t = units - t
+μ-loop session dec table last words input bits out₀ mode direction units done₀ t₀ out done t = units - t
 
 register-is : (s : tie.Start Inv-loop μ-loop) → Block (s .args .session .register)
 register-is s = search arrays
 
 -- from the loop's head back to the entry, and to the count of units
 abbrev entry : tie.At-loop Inv-loop μ-loop → tie.Start Inv-loop μ-loop
-entry l = l .before .before .before .before
+entry l = l .before .before .before .before .before
 
-counted : (l : tie.At-loop Inv-loop μ-loop) → l .before .units-in .result ≡ unitsIn (entry l .args .session .n) (entry l .args .bits)
-counted l = l .before .units-in .ensures
+counted : (l : tie.At-loop Inv-loop μ-loop) → l .before .before .units-in .result ≡ unitsIn (entry l .args .session .n) (entry l .args .bits)
+counted l = l .before .before .units-in .ensures
 
 same-size : (l : tie.At-loop Inv-loop μ-loop) → length (l .loop .out) ≡ length (entry l .args .out .now)
 same-size l = through-length (entry l .pre .0) (entry l .pre .1) (register-is (entry l)) (l .loop .t) (rw (counted l) at (l .loop .inv .1)) (l .loop .inv .0)
@@ -35,12 +35,17 @@ units-in-requires : tie.Need-units-in-requires Inv-loop μ-loop
 units-in-requires c κs = search needs
 
 loop-holds : tie.Need-loop-holds Inv-loop μ-loop
-loop-holds c = let s = c .before .before .before in (none-through (s .pre .0) (s .pre .1) (register-is s), zero-le)
+loop-holds c = let s = c .before .before .before .before in (none-through (s .pre .0) (s .pre .1) (register-is s), zero-le)
 
 work-unit-requires : tie.Need-work-unit-requires Inv-loop μ-loop
 work-unit-requires c κs =
     let l = c .before .before .before in
     (still-workable (entry l .pre .0) (entry l .pre .1) (register-is (entry l)) (same-size l), rw (sym (counted l)) (c .before .before .loop-test .taken))
+
+add-runs : tie.Need-add-runs Inv-loop μ-loop
+add-runs c =
+    let w = c .before .before .before .before .before in
+    omega (arith, w .before .before .before .before .loop .inv .0 .runs-now, w .work-unit .ensures .one-run)
 
 add-t : tie.Need-add-t Inv-loop μ-loop
 add-t c = omega arith
@@ -50,7 +55,7 @@ loop-less c = omega arith
 
 loop-again : tie.Need-loop-again Inv-loop μ-loop
 loop-again c =
-    let w = c .before .before in
+    let w = c .before .before .before .before .before in
     let l = w .before .before .before .before in (
       rw add-one
           (one-through (entry l .pre .0) (entry l .pre .1) (register-is (entry l)) (l .loop .t) (rw (counted l) at (w .before .before .before .loop-test .taken))
@@ -59,11 +64,11 @@ loop-again c =
     )
 
 same-length : tie.Need-same-length Inv-loop μ-loop
-same-length c = same-size (c .before .before)
+same-length c = same-size (c .before)
 
 returns : tie.Need-returns Inv-loop μ-loop
 returns c =
-    let l = c .before .before in
+    let l = c .before in
     let all : l .loop .t ≡ unitsIn (entry l .args .session .n) (entry l .args .bits) = omega (arith, counted l) in
     all-through (entry l .pre .0) (entry l .pre .1) (register-is (entry l)) (rw all at (l .loop .inv .0))
 
@@ -76,6 +81,7 @@ work-units-spec =
     units-in-requires
     loop-holds
     work-unit-requires
+    add-runs
     add-t
     loop-less
     loop-again

@@ -1,7 +1,4 @@
 -- The unit and the register are added before the block function, or after it. Assumes nothing.
-use mathlib.Core.Path.{ap, _∙_}
-use Rattle.bits.specs.Xor.{xorBytes}
-use Rattle.prepared.specs.Rounds.{blockBy}
 use Rattle.bits.proofs.Owned.{arrays}
 use Rattle.units.proofs.TurnLaws as Law
 use borrow.Author.Needs.{needs}
@@ -27,10 +24,10 @@ xor-block-requires-2 : tie.Need-xor-block-requires-2
 xor-block-requires-2 c κs = search needs
 
 returns : tie.Need-returns
-returns c = rw (c .before .before .enum-told .given .1) (Law.cbc-encrypted _ (search arrays) (search arrays) (search arrays) (c .run .ensures ∙ ap (blockBy _ _ _ _ _) (c .before .xor-block .ensures)))
+returns c = rw (c .before .before .before .enum-told .given .1) (Law.cbc-encrypted _ (search arrays) (search arrays) (search arrays) (c .before .before .xor-block .ensures) (c .before .run .ensures))
 
 returns-2 : tie.Need-returns-2
-returns-2 c = rw (c .before .before .enum-told2 .given .1) (Law.cbc-decrypted _ (search arrays) (search arrays) (search arrays) (c .xor-block2 .ensures ∙ ap (λ b. xorBytes b (c .before .before .before .before .args .register)) (c .before .run2 .ensures)))
+returns-2 c = rw (c .before .before .before .enum-told2 .given .1) (Law.cbc-decrypted _ (search arrays) (search arrays) (search arrays) (search arrays) (c .before .before .run2 .ensures) (c .xor-block2 .ensures))
 
 pub cbc-spec : {M : Type 1} → statement M
 cbc-spec =

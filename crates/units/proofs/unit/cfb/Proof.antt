@@ -33,16 +33,16 @@ shifted-requires-2 c κs = search needs
 returns : tie.Need-returns
 returns c =
     let f = c .before .before .before in
-    let e = f .before in
+    let e = f .before .before in
     rw (c .before .enum-told .given .1)
-    (Law.cfb-encrypted _ (register-is (e .before)) (unit-is (e .before)) _ (e .before .pre) (search arrays) (e .run .ensures) (f .xor-block .ensures) (search arrays) (c .shifted .ensures))
+    (Law.cfb-encrypted _ (register-is (e .before)) (unit-is (e .before)) (search arrays) _ (e .before .pre) (e .run .ensures) (f .xor-block .ensures) (search arrays) (c .shifted .ensures))
 
 returns-2 : tie.Need-returns-2
 returns-2 c =
     let f = c .before .before .before in
-    let e = f .before in
+    let e = f .before .before in
     rw (c .before .enum-told2 .given .1)
-    (Law.cfb-decrypted _ (register-is (e .before)) (unit-is (e .before)) _ (e .before .pre) (search arrays) (e .run .ensures) (f .xor-block .ensures) (c .shifted2 .ensures))
+    (Law.cfb-decrypted _ (register-is (e .before)) (unit-is (e .before)) (search arrays) _ (e .before .pre) (e .run .ensures) (f .xor-block .ensures) (c .shifted2 .ensures))
 
 pub cfb-spec : {M : Type 1} → statement M
 cfb-spec =

@@ -12,6 +12,9 @@ register-is s = search arrays
 unit-is : (s : tie.Start) → Block (s .args .unit)
 unit-is s = search arrays
 
+block-is : (c : tie.After-run) → Block (c .run .result .block)
+block-is c = search arrays
+
 run-requires : tie.Need-run-requires
 run-requires c κs = search needs
 
@@ -24,8 +27,8 @@ increment-block-requires c κs = search needs
 returns : tie.Need-returns
 returns c =
     let f = c .before in
-    let e = f .before in
-    Law.ctr-turned _ (register-is (e .before)) (unit-is (e .before)) _ (e .before .pre) (search arrays) (e .run .ensures) (f .xor-block .ensures) _ (c .increment-block .ensures)
+    let e = f .before .before in
+    Law.ctr-turned _ (register-is (e .before)) (unit-is (e .before)) (block-is e) _ (e .before .pre) (e .run .ensures) (f .xor-block .ensures) _ (c .increment-block .ensures)
 
 pub ctr-spec : {M : Type 1} → statement M
 ctr-spec =

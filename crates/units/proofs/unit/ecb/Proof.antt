@@ -9,7 +9,7 @@ run-requires : tie.Need-run-requires
 run-requires c κs = search needs
 
 returns : tie.Need-returns
-returns c = Law.ecb-turned _ (search arrays) (search arrays) _ (search arrays) (c .run .ensures)
+returns c = Law.ecb-turned _ (search arrays) (search arrays) (search arrays) _ (c .before .run .ensures)
 
 pub ecb-spec : {M : Type 1} → statement M
 ecb-spec = tie.close (tie.spec run-requires returns)

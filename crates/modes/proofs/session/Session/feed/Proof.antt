@@ -8,8 +8,9 @@ use lib.ListN.{length, drop, length-take, length-drop}
 use Rattle.bits.specs.Texts.{bits, bytesFor, pack}
 use Rattle.bits.proofs.Texts.{length-bits, length-pack}
 use Rattle.bits.proofs.Owned.{arrays}
+use Rattle.rules.specs.Rules.{unitsIn}
 use Rattle.rules.proofs.Taken.{unit-bounds}
-use Rattle.modes.specs.Sessions.{Arrays, feedNumber, fedText, sessionText, sessionRegister}
+use Rattle.modes.specs.Sessions.{Arrays, feedNumber, fedText, sessionText, sessionRegister, sessionRuns}
 use Rattle.questions.proofs.QuestionLaws.{FeedTaken, feed-taken}
 use Rattle.modes.proofs.AnswerLaws.{feed-refused, feed-accepted, part-written, moved}
 use Rattle.modes.proofs.SessionLaws.{Ready, text-length}
@@ -80,22 +81,22 @@ units-in-requires : tie.Need-units-in-requires
 units-in-requires c κs = search needs
 
 cast-done : tie.Need-cast-done
-cast-done c = let q = answers (asked (c .before)) in omega (arith, q .counted, c .units-in .ensures)
+cast-done c = let q = answers (asked (c .before .before)) in omega (arith, q .counted, c .units-in .ensures)
 
 add-done : tie.Need-add-done
-add-done c = let q = answers (asked (c .before .before)) in omega (arith, q .counted, c .before .units-in .ensures)
+add-done c = let q = answers (asked (c .before .before .before)) in omega (arith, q .counted, c .before .units-in .ensures)
 
-rem-t14 : tie.Need-rem-t14
-rem-t14 c = let q = answers (asked (c .before .before)) in unit-bounds _ _ (q .unit) .0
+rem-rest : tie.Need-rem-rest
+rem-rest c = let q = answers (asked (c .before .before .before)) in unit-bounds _ _ (q .unit) .0
 
 same-length : tie.Need-same-length
 same-length c = search needs
 
 returns-2 : tie.Need-returns-2
-unfolding feedNumber sessionRegister sessionText fedText
+unfolding feedNumber sessionRegister sessionText sessionRuns fedText
 returns-2 c =
-    let w = c .before .before .before .before in
-    let e = asked (c .before .before) in
+    let w = c .before .before .before .before .before in
+    let e = asked (c .before .before .before) in
     let a = e .before .before .before .before .args in
     let q = answers e in
     let text = sessionText (a .self) (fedText (a .input .now) (a .bits)) in
@@ -103,6 +104,7 @@ returns-2 c =
     (moved (a .self) (fedText (a .input .now) (a .bits)) (a .bits) (fed-length e) (w .work .ensures .register-after) (c .before .units-in .ensures))
     (part-written (a .out .now) (a .place) (bytesFor (a .bits)) text _ (q .inside) (become-bytes e) (q .room)
     (w .work .ensures .out-after ∙ ap (λ l. pack text ++ drop (bytesFor (a .bits)) l) (part-all (a .place) (a .out .now))))
+    (w .work .ensures .all-runs ∙ ap (unitsIn (a .self .n)) (sym (fed-length e)))
 
 pub feed-spec : {M : Type 1} → statement M
 feed-spec =
@@ -117,6 +119,6 @@ feed-spec =
     units-in-requires
     cast-done
     add-done
-    rem-t14
+    rem-rest
     same-length
     returns-2)
