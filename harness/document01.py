@@ -222,8 +222,9 @@ def unpad(data, count):
         return 6, 0
     if count == 0 or count % 128:
         return 7, 0
-    at = bits(data)[:count].rfind('1')
-    return (10, 0) if at < 0 else (0, at)
+    # request 02: the last 128 bits alone; where they are all 0, as where the first is their only 1
+    first = count - 128
+    return 0, first + max(bits(data)[first:count].rfind('1'), 0)
 
 
 def neighbour_number(iv, text, j):

@@ -173,6 +173,8 @@ def text_lines():
         yield f'unpad 128 {IV[:30]}{tail}'
         yield f'unpad 256 {IV[:30]}{tail}{"00" * 16}'
     yield from (f'unpad 128 {"00" * 16}', f'unpad 0 {IV}', f'unpad 127 {IV}', f'unpad 129 {IV}', 'unpad 128 -', 'unpad 0 -')
+    for last in ('00' * 16, '80' + '00' * 15, '40' + '00' * 15, '00' * 14 + '0100'):
+        yield f'unpad 256 {IV}{last}'
     yield from (f'unpad 128 {TEXT}', f'unpad 256 80{"00" * 31}', 'unpad 18446744073709551615 00')
     for j in (0, 1, 2, 18446744073709551615):
         yield f'neighbour {IV} {TEXT} {j}'

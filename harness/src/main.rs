@@ -12,6 +12,7 @@ mod rng;
 mod scenario;
 mod sessions;
 mod stack;
+mod unpad;
 
 fn main() {
     let mut report = report::Report::new();
@@ -21,6 +22,7 @@ fn main() {
     stack::run(&mut report);
     replay::run(&mut report);
     modeline::run(&mut report);
+    unpad::run(&mut report);
     if !report.end() {
         std::process::exit(1);
     }

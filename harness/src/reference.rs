@@ -276,10 +276,10 @@ pub fn unpad(input: &[u8], count: usize) -> (u8, usize) {
     if count == 0 || count % 128 != 0 {
         return (7, 0);
     }
-    match bits(input)[..count].iter().rposition(|&bit| bit) {
-        Some(last) => (0, last),
-        None => (10, 0),
-    }
+    // request 02: the last 128 bits alone; where they are all 0, as where the first is their only 1
+    let first = count - 128;
+    let last_one = bits(input)[first..count].iter().rposition(|&bit| bit);
+    (0, first + last_one.unwrap_or(0))
 }
 
 fn block_there(text: &[u8], j: usize) -> bool {

@@ -373,9 +373,12 @@ fn pad_and_unpad(rng: &mut Rng, script: &mut Script) {
         ),
         format!("{number} {padded} {}", word(&out)),
     );
-    // a text with few 1 bits, most often whole blocks
-    let mut text = vec![0; rng.below(70)];
-    if !text.is_empty() {
+    // any bytes, then 0 bits with a 1 among them at most, most often whole blocks
+    let length = rng.below(70);
+    let front = rng.below(length + 1);
+    let mut text = rng.bytes(front);
+    text.resize(length, 0);
+    if length > 0 {
         let at = rng.below(text.len());
         text[at] = 1u8.checked_shl(rng.below(9) as u32).unwrap_or(0);
     }

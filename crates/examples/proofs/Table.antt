@@ -15,9 +15,8 @@ use Rattle.aes.specs.KeyExpansion.{subWord, rotWord, power, rcon, temp, nextWor
 use Rattle.aes.specs.Calls.{keyOk, keyRounds, keyBytes}
 use Rattle.rules.specs.Rules.{msb, mask, next, cipher, plain, outOf, nextOf, unitAt, unitsIn, joined, registerAt, outAt, worked}
 use Rattle.questions.specs.Questions.{ask, bitsOk}
-use Rattle.modes.specs.Sessions.{fedText}
 use Rattle.grammar.specs.Grammar.{same}
-use Rattle.padding.specs.Padding.{zerosFor, padded, wholeBlocks, holdsOne, unpadQuestions, unpadNumber}
+use Rattle.padding.specs.Padding.{zerosFor, padded, upToLastOne, lastBlock, unpaddedLength, wholeBlocks, unpadQuestions, unpadNumber}
 use Rattle.examples.specs.Examples.{key, iv, ivEncrypted, allPass, digits, examples, ExamplesPass}
 
 -- the key's schedule
@@ -70,5 +69,5 @@ unfolding encrypting
 cfb-1c = refl
 
 pub examples-pass : ExamplesPass
-unfolding ExamplesPass examples allPass same digits xor xorBytes bit byteBits bits digit byteOf packTo bytesFor pack xorBit xorBits shiftIn number numberBytes increment double shiftAdd product square squares inverse low fromBits affine subByte msb mask next cipher plain outOf nextOf unitAt unitsIn joined registerAt outAt worked ask bitsOk fedText zerosFor padded wholeBlocks holdsOne unpadQuestions unpadNumber
+unfolding ExamplesPass examples allPass same digits xor xorBytes bit byteBits bits digit byteOf packTo bytesFor pack xorBit xorBits shiftIn number numberBytes increment double shiftAdd product square squares inverse low fromBits affine subByte msb mask next cipher plain outOf nextOf unitAt unitsIn joined registerAt outAt worked ask bitsOk zerosFor padded upToLastOne lastBlock unpaddedLength wholeBlocks unpadQuestions unpadNumber
 examples-pass = rw (the-rounds, the-keys, iv-in, iv-back, cbc, cfb-8, cfb-1a, cfb-1b, cfb-1c)

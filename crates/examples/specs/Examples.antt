@@ -14,7 +14,7 @@ use Rattle.rules.specs.declared.Mode.the-variants.{Cbc, Cfb}
 use Rattle.rules.specs.declared.Direction.the-variants.{Encrypt, Decrypt}
 use Rattle.rules.specs.Rules.{worked}
 use Rattle.grammar.specs.Grammar.{same}
-use Rattle.padding.specs.Padding.{padded, unpadNumber}
+use Rattle.padding.specs.Padding.{padded, unpaddedLength, unpadNumber}
 
 -- ---- a row, and the test
 
@@ -75,8 +75,8 @@ examples enc dec =
     -- pad of 0 bits, and of 128
     ∷ record { given = pack (padded []); said = 0x80 ∷ replicate 15 0x00 }
     ∷ record { given = length (padded (bits block)) ∷ []; said = 256 ∷ [] }
-    -- unpad of sixteen 00
-    ∷ record { given = unpadNumber (replicate 16 0x00) 128 ∷ []; said = 10 ∷ [] }
+    -- unpad of sixteen 00: the number, and the bits
+    ∷ record { given = unpadNumber 16 128 ∷ unpaddedLength (bits (replicate 16 0x00)) ∷ []; said = 0 ∷ 0 ∷ [] }
     ∷ []
 
 -- Enc and Dec are AES under that key.

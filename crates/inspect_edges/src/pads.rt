@@ -113,6 +113,27 @@ fn more_unpads() {
     unpad(b"unpad the largest count", &ones, 18446744073709551615);
 }
 
+// A block of text before the last block, which is damaged to 0 bits, or has its last 1 at an edge: its first bit, its second,
+// the last before its last byte.
+fn after_text() {
+    let zeros =
+        b"\xff\xff\xff\xff\xff\xff\xff\xff\xff\xff\xff\xff\xff\xff\xff\xff\0\0\0\0\0\0\0\0\0\0\0\0\0\0\0\0";
+    let one_first =
+        b"\xff\xff\xff\xff\xff\xff\xff\xff\xff\xff\xff\xff\xff\xff\xff\xff\x80\0\0\0\0\0\0\0\0\0\0\0\0\0\0\0";
+    let one_second =
+        b"\xff\xff\xff\xff\xff\xff\xff\xff\xff\xff\xff\xff\xff\xff\xff\xff\x40\0\0\0\0\0\0\0\0\0\0\0\0\0\0\0";
+    let one_before_last_byte =
+        b"\xff\xff\xff\xff\xff\xff\xff\xff\xff\xff\xff\xff\xff\xff\xff\xff\x40\0\0\0\0\0\0\0\0\0\0\0\0\0\x01\0";
+    unpad(b"unpad text and 0 bits", zeros, 256);
+    unpad(b"unpad text, 80 and 0 bits", one_first, 256);
+    unpad(b"unpad text, 40 and 0 bits", one_second, 256);
+    unpad(
+        b"unpad text, a 1 before the last byte",
+        one_before_last_byte,
+        256,
+    );
+}
+
 fn largest_unpads() {
     let zeros = [0u8; BYTES + 16];
     let ones = [0xffu8; BYTES + 16];
@@ -130,5 +151,6 @@ pub fn run() {
     largest_pads();
     unpads();
     more_unpads();
+    after_text();
     largest_unpads();
 }

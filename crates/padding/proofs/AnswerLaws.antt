@@ -1,5 +1,5 @@
 -- What pad and unpad answer: where the number is 0 and where it is not. Assumes nothing.
-use Prim.Native.Nat.{ℕ, _-_, _*_, _≤_}
+use Prim.Native.Nat.{ℕ, _-_, _*_, _%_, _≤_, _<_}
 use mathlib.Core.Path.{_≡_, sym, _∙_}
 use mathlib.Core.Bool.{true, false, and-eq-true-iff}
 use mathlib.Core.List.{List}
@@ -11,7 +11,8 @@ use Rattle.bits.specs.Texts.{bits, bytesFor}
 use Rattle.questions.specs.Questions.{ask, bitsOk, roomOk, maxBits}
 use Rattle.modes.specs.Sessions.{fedText, written}
 use Rattle.questions.proofs.QuestionLaws.{first-yes, bits-small, bits-there}
-use Rattle.padding.specs.Padding.{padded, paddedLength, maxPadBits, padQuestions, padNumber, PaddedBy, unpaddedLength, wholeBlocks, holdsOne, unpadQuestions, unpadNumber, UnpaddedBy}
+use Rattle.padding.specs.Padding.{padded, paddedLength, maxPadBits, padQuestions, padNumber, PaddedBy, unpaddedLength, unpadQuestions, unpadNumber, UnpaddedBy}
+use Rattle.padding.proofs.NumberLaws.{taken, whole-blocks, blocks-there}
 use Rattle.padding.proofs.PadLaws.{length-padded, length-fed}
 
 -- ---- pad
@@ -55,32 +56,31 @@ module _ (input : List ℕ) (count : ℕ) (out : List ℕ) (place : ℕ) {number
 
 -- ---- unpad
 
-module _ (input : List ℕ) (count : ℕ) where
-  pub number-6 : bitsOk maxBits (length input) count ≡ false → 6 ≡ unpadNumber input count
-  unfolding unpadNumber unpadQuestions ask
-  number-6 a = rw a
+-- what an accepted unpad was asked
+pub record UnpadTaken (bytes count : ℕ) : Type 0 where
+  pub there : count ≤ 8 * bytes
+  pub limit : count ≤ maxBits
+  pub some : 128 ≤ count
 
-  module _ (a6 : bitsOk maxBits (length input) count ≡ true) where
-    pub number-7 : wholeBlocks count ≡ false → 7 ≡ unpadNumber input count
-    unfolding unpadNumber unpadQuestions ask
-    number-7 a = rw (a6, a)
+pub unpad-taken : (bytes count : ℕ) → unpadNumber bytes count ≡ 0 → UnpadTaken bytes count
+unfolding unpadNumber unpadQuestions
+unpad-taken bytes count e6 =
+    let (q6, e7) = first-yes _ _ (omega arith) e6 in
+    let (q7, e0) = first-yes _ _ (omega arith) e7 in
+    record { there = bits-there _ _ _ q6; limit = bits-small _ _ _ q6; some = blocks-there count q7 }
 
-    module _ (a7 : wholeBlocks count ≡ true) where
-      pub number-10 : holdsOne (fedText input count) ≡ false → 10 ≡ unpadNumber input count
-      unfolding unpadNumber unpadQuestions ask
-      number-10 a = rw (a6, a7, a)
+pub unpad-takes : (bytes count : ℕ) → 0 < count → count % 128 ≡ 0 → count ≤ 8 * bytes → count ≤ maxBits → unpadNumber bytes count ≡ 0
+unfolding unpadNumber unpadQuestions ask
+unpad-takes bytes count some whole there limit = rw (taken maxBits bytes count limit (omega arith), whole-blocks count (omega arith) whole)
 
-      pub number-0 : holdsOne (fedText input count) ≡ true → 0 ≡ unpadNumber input count
-      unfolding unpadNumber unpadQuestions ask
-      number-0 a = rw (a6, a7, a)
-
-  pub unpad-refused : (number : ℕ) → number ≡ unpadNumber input count → (number ≡ 0 → ⊥) → UnpaddedBy input count (record { number = number; bits = 0 })
-  unpad-refused number asked some =
-      let e : eqb (unpadNumber input count) 0 ≡ false = rw (← asked) (ne-eqb number 0 some) in
+module _ (input : List ℕ) (count : ℕ) {number : ℕ} (asked : number ≡ unpadNumber (length input) count) where
+  pub unpad-refused : (number ≡ 0 → ⊥) → UnpaddedBy input count (record { number = number; bits = 0 })
+  unpad-refused some =
+      let e : eqb (unpadNumber (length input) count) 0 ≡ false = rw (← asked) (ne-eqb number 0 some) in
       record { answer = asked; size = rw e }
 
-  pub unpad-accepted : 0 ≡ unpadNumber input count → (size : ℕ) → size ≡ unpaddedLength (fedText input count)
-      → UnpaddedBy input count (record { number = 0; bits = size })
-  unpad-accepted asked size size-is =
-      let e : eqb (unpadNumber input count) 0 ≡ true = eq-eqb _ 0 (sym asked) in
-      record { answer = asked; size = rw e size-is }
+  pub unpad-accepted : number ≡ 0 → {size : ℕ} → size ≡ unpaddedLength (fedText input count) → UnpaddedBy input count (record { number = 0; bits = size })
+  unpad-accepted none size-is =
+      let zero : unpadNumber (length input) count ≡ 0 = sym asked ∙ none in
+      let e : eqb (unpadNumber (length input) count) 0 ≡ true = eq-eqb _ 0 zero in
+      record { answer = sym zero; size = rw e size-is }

@@ -2,5 +2,7 @@
 pub mod NumberLaws
 pub mod PadLaws
 pub mod OneLaws
+pub mod CutLaws
 pub mod AnswerLaws
 pub mod PromiseLaws
+pub mod LastBlockLaws

@@ -3,9 +3,10 @@ use Prim.Native.Nat.{ℕ, _+_, _-_, _*_, _/_, _%_, _≤_}
 use mathlib.Core.Path.{_≡_}
 use mathlib.Core.Bool.{true, false, and-false}
 use native.Mathlib.Omega.{arith}
-use lib.Dec.{leb}
-use borrow.Author.Tests.{le-leb, eq-eqb, ne-eqb}
+use lib.Dec.{leb, eqb}
+use borrow.Author.Tests.{le-leb, leb-true, eq-eqb, ne-eqb, eqb-true}
 use Rattle.questions.specs.Questions.{bitsOk, roomOk}
+use Rattle.questions.proofs.QuestionLaws.{both-true}
 use Rattle.padding.specs.Padding.{wholeBlocks}
 
 module _ (limit bytes count : ℕ) where
@@ -29,3 +30,9 @@ broken-block count h = rw (ne-eqb (count % 128) 0 h) (and-false (leb 1 count))
 pub whole-blocks : (count : ℕ) → (count ≡ 0 → ⊥) → count % 128 ≡ 0 → wholeBlocks count ≡ true
 unfolding wholeBlocks
 whole-blocks count some whole = rw (le-leb 1 count (omega arith), eq-eqb (count % 128) 0 whole)
+
+pub blocks-there : (count : ℕ) → wholeBlocks count ≡ true → 128 ≤ count
+unfolding wholeBlocks
+blocks-there count e =
+    let (some, whole) = both-true (leb 1 count) (eqb (count % 128) 0) e in
+    omega (arith, leb-true 1 count some, eqb-true (count % 128) 0 whole)

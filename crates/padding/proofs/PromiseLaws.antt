@@ -1,5 +1,5 @@
 -- The promises of padded texts. Assumes nothing.
-use Prim.Native.Nat.{ℕ, suc, _-_, _*_, _≤_}
+use Prim.Native.Nat.{ℕ, _-_, _*_, _≤_}
 use mathlib.Core.Path.{_≡_, sym, _∙_}
 use mathlib.Core.Bool.{Bool, true}
 use mathlib.Core.List.{List}
@@ -8,15 +8,15 @@ use borrow.Author.Tests.{eq-eqb, ne-eqb}
 use lib.Dec.{eqb}
 use lib.ListN.{length, drop}
 use Rattle.bits.specs.Texts.{bits, bytesFor}
-use Rattle.questions.specs.Questions.{ask, maxBits}
+use Rattle.questions.specs.Questions.{ask}
 use Rattle.modes.specs.Sessions.{fedText, written}
 use Rattle.padding.specs.declared.strip.Unpadded.{Unpadded}
-use Rattle.padding.specs.Padding.{zerosFor, padded, paddedLength, maxPadBits, padQuestions, padNumber, upToLastOne, unpaddedLength, holdsOne, unpadNumber, UnpaddedBy}
+use Rattle.padding.specs.Padding.{zerosFor, padded, paddedLength, maxPadBits, padQuestions, padNumber, unpaddedLength, unpadNumber, UnpaddedBy}
 use Rattle.padding.specs.Promises.{PaddedWhole, UnpadsPadded, PadRefusedUnchanged, UnpadRefusedZero, PadAccepts, UnpadAfterPad}
-use Rattle.padding.proofs.NumberLaws.{taken, room, whole-blocks}
+use Rattle.padding.proofs.NumberLaws.{taken, room}
 use Rattle.padding.proofs.PadLaws.{length-padded, padded-whole, padded-limit, length-fed, written-fed, written-there}
-use Rattle.padding.proofs.OneLaws.{last-one, holds-one}
-use Rattle.padding.proofs.AnswerLaws.{pad-taken, number-0}
+use Rattle.padding.proofs.CutLaws.{cut, one-cut, padded-cut}
+use Rattle.padding.proofs.AnswerLaws.{pad-taken, unpad-takes}
 
 pub padded-texts-whole : PaddedWhole
 unfolding PaddedWhole paddedLength zerosFor
@@ -24,17 +24,11 @@ padded-texts-whole x =
     let e = length-padded x in
     record { multiple = rw e (padded-whole (length x)); longer = rw e (omega arith); at-most = rw e (omega arith); fewest = λ z h. omega arith }
 
--- the last 1 of a padded text is the one behind the text
-padded-one : (x : List Bool) → upToLastOne (padded x) (length (padded x)) ≡ suc (length x)
-unfolding padded paddedLength
-padded-one x = rw length-padded (last-one x (zerosFor (length x)))
-
 pub unpads-padded : UnpadsPadded
-unfolding UnpadsPadded unpaddedLength
-unpads-padded x = rw padded-one
-
-holds-padded : (x : List Bool) → holdsOne (padded x) ≡ true
-holds-padded x = rw (holds-one, padded-one)
+unfolding UnpadsPadded PaddedWhole
+unpads-padded x =
+    let w = padded-texts-whole x in
+    one-cut (padded x) (unpaddedLength (padded x)) (length x) (cut (padded x) (omega (arith, w .multiple))) (padded-cut x)
 
 pub pad-refused-unchanged : PadRefusedUnchanged
 unfolding PadRefusedUnchanged
@@ -44,7 +38,7 @@ pad-refused-unchanged input count out place r after by refused =
 
 pub unpad-refused-zero : UnpadRefusedZero
 unfolding UnpadRefusedZero
-unpad-refused-zero input count r by refused = rw (ne-eqb (unpadNumber input count) 0 (λ e. refused (by .answer ∙ e))) at (by .size)
+unpad-refused-zero input count r by refused = rw (ne-eqb (unpadNumber (length input) count) 0 (λ e. refused (by .answer ∙ e))) at (by .size)
 
 pub pad-accepts : PadAccepts
 unfolding PadAccepts padNumber padQuestions ask
@@ -57,18 +51,16 @@ pad-accepts input count out place r after by there limit fits =
 
 -- unpad, handed a padded text
 module _ (s : List ℕ) (x : List Bool) (handed : fedText s (length (padded x)) ≡ padded x) (there : length (padded x) ≤ 8 * length s) (limit : length x ≤ maxPadBits) where
-  unpad-number : 0 ≡ unpadNumber s (length (padded x))
+  unpad-number : unpadNumber (length s) (length (padded x)) ≡ 0
   unfolding PaddedWhole
   unpad-number =
       let w = padded-texts-whole x in
-      number-0 s (length (padded x)) (taken maxBits (length s) (length (padded x)) (rw length-padded (padded-limit (length x) limit)) (omega arith))
-      (whole-blocks (length (padded x)) (omega arith) (w .multiple)) (rw handed (holds-padded x))
+      unpad-takes (length s) (length (padded x)) (omega arith) (w .multiple) there (rw length-padded (padded-limit (length x) limit))
 
   unpadded-text : (u : Unpadded) → UnpaddedBy s (length (padded x)) u → (u .number ≡ 0) × (u .bits ≡ length x)
   unfolding UnpadsPadded
   unpadded-text u by =
-      let e : eqb (unpadNumber s (length (padded x))) 0 ≡ true = eq-eqb _ 0 (sym unpad-number) in
-      (by .answer ∙ sym unpad-number, by .size ∙ rw (e, handed, unpads-padded x))
+      (by .answer ∙ unpad-number, by .size ∙ rw (eq-eqb _ 0 unpad-number, handed, unpads-padded x))
 
 pub unpad-after-pad : UnpadAfterPad
 unfolding UnpadAfterPad

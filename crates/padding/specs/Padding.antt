@@ -1,11 +1,11 @@
--- Document 01, "Padding, one block, comparison", and questions 6, 7, 8 and 10 for pad and unpad: the number, the length in bits
--- and every byte of the output, for all arguments.
+-- Document 01, "Padding, one block, comparison", as request 02 changed it, and questions 6, 7 and 8 for pad and unpad:
+-- the number, the length in bits and every byte of the output, for all arguments.
 use Prim.Native.Nat.{ℕ, zero, suc, pred, _+_, _-_, _%_}
 use mathlib.Core.Path.{_≡_}
 use mathlib.Core.Bool.{Bool, true, false, cond, _&&_}
 use mathlib.Core.List.{List, [], _∷_, _++_}
 use lib.Dec.{eqb, leb}
-use lib.ListN.{length, getD, replicate}
+use lib.ListN.{length, getD, drop, replicate}
 use Rattle.bits.specs.Texts.{bytesFor}
 use Rattle.questions.specs.Questions.{Question, ask, bitsOk, roomOk, maxBits}
 use Rattle.modes.specs.Sessions.{fedText, written}
@@ -48,26 +48,26 @@ unfoldable pub upToLastOne : List Bool → ℕ → ℕ
 upToLastOne x zero = 0
 upToLastOne x (suc k) = let rest = upToLastOne x k in cond (getD x k false) (suc k) rest
 
--- The bits before that 1.
+-- Padding is 1 to 128 bits long: nothing before these is looked at.
+unfoldable pub lastBlock : List Bool → List Bool
+lastBlock x = drop (length x - 128) x
+
+-- All bits before the last block, and in it those before its last 1. That is none where the block is all 0, as it is none where it
+-- is 80 and fifteen 00: `pred` of 0 and of 1 is 0.
 unfoldable pub unpaddedLength : List Bool → ℕ
-unpaddedLength x = pred (upToLastOne x (length x))
+unpaddedLength x = (length x - 128) + pred (upToLastOne (lastBlock x) 128)
 
 -- Question 7, for unpad: a positive multiple of 128?
 unfoldable pub wholeBlocks : ℕ → Bool
 wholeBlocks count = leb 1 count && eqb (count % 128) 0
 
--- Question 10: does the padded text hold a 1 bit?
-unfoldable pub holdsOne : List Bool → Bool
-holdsOne [] = false
-holdsOne (b ∷ x) = cond b true (holdsOne x)
+-- Number 10 was a third question's, whether the text holds a 1 bit. It stays reserved, and no call asks it.
+unfoldable pub unpadQuestions : ℕ → ℕ → List Question
+unpadQuestions bytes count = record { yes = bitsOk maxBits bytes count; number = 6 } ∷ record { yes = wholeBlocks count; number = 7 } ∷ []
 
-unfoldable pub unpadQuestions : ℕ → ℕ → List Bool → List Question
-unpadQuestions bytes count x =
-    record { yes = bitsOk maxBits bytes count; number = 6 } ∷ record { yes = wholeBlocks count; number = 7 } ∷ record { yes = holdsOne x; number = 10 } ∷ []
-
-unfoldable pub unpadNumber : List ℕ → ℕ → ℕ
-unpadNumber input count = ask (unpadQuestions (length input) count (fedText input count))
+unfoldable pub unpadNumber : ℕ → ℕ → ℕ
+unpadNumber bytes count = ask (unpadQuestions bytes count)
 
 pub record UnpaddedBy (input : List ℕ) (count : ℕ) (r : Unpadded) : Type 0 where
-  pub answer : r .number ≡ unpadNumber input count
-  pub size : r .bits ≡ cond (eqb (unpadNumber input count) 0) (unpaddedLength (fedText input count)) 0
+  pub answer : r .number ≡ unpadNumber (length input) count
+  pub size : r .bits ≡ cond (eqb (unpadNumber (length input) count) 0) (unpaddedLength (fedText input count)) 0

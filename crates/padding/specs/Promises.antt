@@ -1,13 +1,15 @@
 -- What is promised of padded texts, by the rule for every text, and by the calls.
 use Prim.Native.Nat.{ℕ, _+_, _*_, _%_, _≤_, _<_}
 use mathlib.Core.Path.{_≡_}
-use mathlib.Core.Bool.{Bool}
-use mathlib.Core.List.{List}
-use lib.ListN.{length, drop}
+use mathlib.Core.Bool.{Bool, true, false}
+use mathlib.Core.List.{List, _∷_, _++_}
+use lib.ListN.{length, getD, drop, replicate}
 use Rattle.bits.specs.Texts.{bytesFor}
 use Rattle.padding.specs.declared.append.Padded.{Padded}
 use Rattle.padding.specs.declared.strip.Unpadded.{Unpadded}
-use Rattle.padding.specs.Padding.{zerosFor, padded, paddedLength, maxPadBits, unpaddedLength, PaddedBy, UnpaddedBy}
+use Rattle.questions.specs.Questions.{maxBits}
+use Rattle.modes.specs.Sessions.{fedText}
+use Rattle.padding.specs.Padding.{zerosFor, padded, paddedLength, maxPadBits, lastBlock, unpaddedLength, PaddedBy, UnpaddedBy}
 
 -- A padded text is a multiple of 128 bits, 1 to 128 bits longer than the text, and no fewer 0 bits would do.
 pub record WholeBlocks (x : List Bool) : Type 0 where
@@ -43,3 +45,45 @@ UnpadAfterPad =
     (input : List ℕ) (count : ℕ) (out : List ℕ) (place : ℕ) (r : Padded) (after : List ℕ) (u : Unpadded)
     → PaddedBy input count out place r after → r .number ≡ 0 → UnpaddedBy (drop place after) (r .bits) u
     → (u .number ≡ 0) × (u .bits ≡ count)
+
+-- Unpad takes every text of whole blocks, whatever its bits are.
+unfoldable pub UnpadAccepts : Type 0
+UnpadAccepts =
+    (input : List ℕ) (count : ℕ) (u : Unpadded) → UnpaddedBy input count u
+    → 0 < count → count % 128 ≡ 0 → count ≤ 8 * length input → count ≤ maxBits → u .number ≡ 0
+
+-- What it answers lies 1 to 128 bits before the end.
+unfoldable pub UnpadInLastBlock : Type 0
+UnpadInLastBlock = (input : List ℕ) (count : ℕ) (u : Unpadded) → UnpaddedBy input count u → u .number ≡ 0 → (u .bits < count) × (count ≤ u .bits + 128)
+
+-- What is cut off is padding and nothing else: 0 bits behind a 1, or a whole last block of 0 bits. One length only is such a cut.
+pub record Cut (x : List Bool) (k : ℕ) : Type 0 where
+  pub before-end : k < length x
+  pub in-last-block : length x ≤ k + 128
+  pub zeros-behind : (i : ℕ) → k < i → i < length x → getD x i false ≡ false
+  pub one-there : length x < k + 128 → getD x k false ≡ true
+
+unfoldable pub UnpadCuts : Type 0
+UnpadCuts =
+    (input : List ℕ) (count : ℕ) (u : Unpadded) → UnpaddedBy input count u → u .number ≡ 0
+    → Cut (fedText input count) (u .bits) × ((k : ℕ) → Cut (fedText input count) k → u .bits ≡ k)
+
+-- Nothing before the last 128 bits counts: two inputs that hold the bits and agree there get the same answer.
+unfoldable pub UnpadByLastBlock : Type 0
+UnpadByLastBlock =
+    (s t : List ℕ) (count : ℕ) (u v : Unpadded) → UnpaddedBy s count u → UnpaddedBy t count v
+    → count ≤ 8 * length s → count ≤ 8 * length t → lastBlock (fedText s count) ≡ lastBlock (fedText t count)
+    → (u .number ≡ v .number) × (u .bits ≡ v .bits)
+
+-- A last block of 0 bits is answered as 80 and fifteen 00 there is, by all bits before it, whatever these are and whatever stands
+-- behind the text.
+unfoldable pub ZeroBlockAs80 : Type 0
+ZeroBlockAs80 =
+    (before behind : List ℕ) (u v : Unpadded)
+    → UnpaddedBy (before ++ replicate 16 0x00 ++ behind) (8 * length before + 128) u
+    → UnpaddedBy (before ++ (0x80 ∷ replicate 15 0x00) ++ behind) (8 * length before + 128) v
+    → (u .number ≡ v .number) × (u .bits ≡ v .bits) × (u .number ≡ 0 → u .bits ≡ 8 * length before)
+
+-- Number 10 is never answered.
+unfoldable pub UnpadNever10 : Type 0
+UnpadNever10 = (input : List ℕ) (count : ℕ) (u : Unpadded) → UnpaddedBy input count u → u .number ≡ 10 → ⊥

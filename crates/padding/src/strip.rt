@@ -1,12 +1,11 @@
-// Unpad: from the end, pass 0 bits up to the first 1 bit.
+// Unpad: from the end of the last block, pass 0 bits up to the first 1 bit.
 use modes::Session;
 use questions::BLOCK_BITS;
 ghost use mathlib.Core.Path.{_≡_};
-ghost use Prim.Native.Nat.{_*_, _≤_};
-ghost use lib.ListN.{length};
-ghost use Rattle.bits.specs.Texts.{bits, byteBits};
-ghost use Rattle.questions.specs.Questions.{maxBits};
-ghost use Rattle.padding.specs.Padding.{upToLastOne, UnpaddedBy};
+ghost use Prim.Native.Nat.{_-_, pred};
+ghost use Rattle.bits.specs.Texts.{bits};
+ghost use Rattle.questions.specs.Questions.{ask};
+ghost use Rattle.padding.specs.Padding.{upToLastOne, unpadQuestions, UnpaddedBy};
 
 // The number, and how many bits the text has, 0 when refused.
 pub struct Unpadded {
@@ -14,58 +13,51 @@ pub struct Unpadded {
     pub bits: usize,
 }
 
-// How many bits of a byte stand up to its last 1, that one included; 0 for a zero byte.
-fn used_bits(b: u8) -> usize
-    ensures { λ r. ⌜ r ≡ upToLastOne (byteBits b) 8 ⌝ }
+// How many bits at a block's end are padding: its last 1 and the 0 bits behind that. Where the first bit alone may be 1, all 128 are,
+// and that bit is not looked at: a block of 0 bits is read as 80 and fifteen 00.
+fn padding_bits(block: [u8; 16]) -> usize
+    ensures { λ r. ⌜ r ≡ 128 - pred (upToLastOne (bits block) 128) ⌝ }
 {
-    let mut n: usize = 8;
-    while n > 0 {
-        if (b >> ((8 - n) as u8)) % 2 == 1 {
+    let mut n: usize = 1;
+    while n < BLOCK_BITS {
+        let at = BLOCK_BITS - n;
+        if (block[at / 8] >> ((7 - at % 8) as u8)) % 2 == 1 {
             return n;
         }
-        n -= 1;
+        n += 1;
     }
-    0
+    n
 }
 
-// The same of the first `bytes` bytes of a slice. Zero bytes are passed whole.
-fn used_bits_of(s: &[u8], bytes: usize) -> usize
-    requires { ⌜ (bytes ≤ length (now s)) × (bytes * 8 ≤ maxBits) ⌝ }
-    ensures { λ r. ⌜ r ≡ upToLastOne (bits (now (s .entry))) (bytes * 8) ⌝ }
+// Questions 6 and 7.
+fn unpad_number(bytes: usize, bits: usize) -> u8
+    ensures { λ r. ⌜ r ≡ ask (unpadQuestions bytes bits) ⌝ }
 {
-    let mut left = bytes;
-    while left > 0 {
-        let b = s[left - 1];
-        if b != 0 {
-            return (left - 1) * 8 + used_bits(b);
-        }
-        left -= 1;
+    if !questions::bits_ok(Session::MAX_BITS, bytes, bits) {
+        return 6;
+    }
+    if bits == 0 {
+        return 7;
+    }
+    if bits % BLOCK_BITS != 0 {
+        return 7;
     }
     0
 }
 
-// How many bits of a padded text, the first `bits` bits of `input`, stand before its last 1.
+// How many bits of a padded text, the first `bits` bits of `input`, stand before its padding. The last 128 of them are read, and
+// nothing else.
 pub fn unpad(input: &[u8], bits: usize) -> Unpadded
     ensures { λ r. ⌜ UnpaddedBy (now (input .entry)) bits r ⌝ }
 {
-    if !questions::bits_ok(Session::MAX_BITS, input.len(), bits) {
-        return Unpadded { number: 6, bits: 0 };
+    let number = unpad_number(input.len(), bits);
+    if number != 0 {
+        return Unpadded { number, bits: 0 };
     }
-    if bits == 0 {
-        return Unpadded { number: 7, bits: 0 };
-    }
-    if bits % BLOCK_BITS != 0 {
-        return Unpadded { number: 7, bits: 0 };
-    }
-    let used = used_bits_of(input, bits / 8);
-    if used == 0 {
-        return Unpadded {
-            number: 10,
-            bits: 0,
-        };
-    }
+    let block = bits::window(input, bits - BLOCK_BITS, BLOCK_BITS);
+    let text = bits - padding_bits(block);
     Unpadded {
         number: 0,
-        bits: used - 1,
+        bits: text,
     }
 }
