@@ -251,6 +251,54 @@ def single_block(key, iv, text, j, out, place):
     return 0, written(out, place, bits(plain))
 
 
+# ciphertext stealing (request 03): full blocks, and behind them a tail of 1 to 16 bytes
+
+def full_blocks(message):
+    full = (len(message) - 1) // 16
+    return [message[16 * j:16 * j + 16] for j in range(full)], message[16 * full:]
+
+
+def steal_encrypt(key, iv, plain):
+    blocks, tail = full_blocks(plain)
+    x, cipher = iv, []
+    for block in blocks:
+        x = encrypt(key, add(block, x))
+        cipher.append(x)
+    cipher[-1] = encrypt(key, add(tail.ljust(16, b'\0'), x))
+    return b''.join(cipher) + x[:len(tail)]
+
+
+# the block before the end is decrypted to (tail filled with 00) XOR X, which has X's own bytes behind the tail's
+def steal_decrypt(key, iv, cipher):
+    blocks, end = full_blocks(cipher)
+    mixed = decrypt(key, blocks[-1])
+    x = end + mixed[len(end):]
+    blocks[-1] = x
+    plain = [add(decrypt(key, block), before) for block, before in zip(blocks, [iv] + blocks)]
+    return b''.join(map(bytes, plain)) + bytes(add(mixed, end))
+
+
+def steal_number(key, iv, length, count, size, place):
+    if len(key) not in (16, 24, 32):
+        return 1
+    if len(iv) != 16:
+        return 2
+    if count > min(8 * length, MAX_BITS):
+        return 6
+    if count % 8 or count <= 128:
+        return 13
+    return 0 if room(count, size, place) else 8
+
+
+# the number and the output
+def steal(way, key, iv, data, count, out, place):
+    number = steal_number(key, iv, len(data), count, len(out), place)
+    if number:
+        return number, out
+    worked = (steal_encrypt if way == 'E' else steal_decrypt)(key, iv, data[:count // 8])
+    return 0, written(out, place, bits(worked))
+
+
 # the published blocks: FIPS 197 appendix C
 for size, block in ((16, '69c4e0d86a7b0430d8cdb78070b4c55a'), (24, 'dda97ca4864cdfe06eaf70a0ec0d7191'),
                     (32, '8ea2b7ca516745bfeafc49904b496089')):

@@ -7,7 +7,7 @@ import re
 import sys
 
 sys.path.insert(0, os.path.join(os.path.dirname(os.path.abspath(__file__)), '..', '..', 'harness'))
-from document01 import MAX_BITS, REFUSED, feed, forecast, neighbour, opening, pad, single_block, unpad
+from document01 import MAX_BITS, REFUSED, feed, forecast, neighbour, opening, pad, single_block, steal, unpad
 
 
 # the lines
@@ -94,6 +94,12 @@ class Replay:
                             read_number(place))
         return f'{number} {show(out)}'
 
+    def steal(self, way, key, iv, count, size, place, fill, data):
+        out = read_fill(fill) * read_number(size, LONGEST)
+        number, out = steal(read_one_of(way, ('E', 'D')), read_bytes(key, LONGEST), read_bytes(iv, LONGEST), read_bytes(data, LONGEST),
+                            read_number(count), out, read_number(place))
+        return f'{number} {show(out)}'
+
     def keep(self):
         self.kept = self.session
         return 'kept'
@@ -103,7 +109,8 @@ class Replay:
         same = all(self.session[k] == self.kept[k] for k in ('mode', 'way', 'n', 'key', 'r'))
         return 'yes' if same else 'no'
 
-    COMMANDS = {'open': 5, 'feed': 5, 'forecast': 3, 'pad': 5, 'unpad': 2, 'neighbour': 3, 'block': 7, 'keep': 0, 'alike': 0}
+    COMMANDS = {'open': 5, 'feed': 5, 'forecast': 3, 'pad': 5, 'unpad': 2, 'neighbour': 3, 'block': 7, 'steal': 8, 'keep': 0,
+                'alike': 0}
 
     def line(self, line):
         name, *words = line.split(' ')
@@ -185,14 +192,30 @@ def text_lines():
     yield from (f'block {KEY32} {IV} {IV} 0 16 0 ee', f'block {KEY32} {IV} {IV} 0 15 0 ee')
 
 
+# messages about whole blocks under each key; then the five questions, each answered 'no' with those behind it
+def steal_lines():
+    data = TEXT + IV
+    for way in 'ED':
+        for key in (KEY, KEY24, KEY32):
+            for size in (17, 31, 32, 33, 47, 48):
+                yield f'steal {way} {key} {IV} {8 * size} 51 2 ee {data}'
+        for count in (0, 128, 129, 135, 137, 384, 385):
+            yield f'steal {way} {KEY} {IV} {count} 51 2 ee {data}'
+        yield from (f'steal {way} {KEY} {IV} 136 17 0 ee {data[:34]}', f'steal {way} {KEY} {IV} 136 17 1 ee {data[:34]}')
+        yield from (f'steal {way} {KEY}00 - 137 0 1 ee {IV}', f'steal {way} {KEY} - 137 0 1 ee {IV}')
+        yield from (f'steal {way} {KEY} {IV} 137 0 1 ee {IV}', f'steal {way} {KEY} {IV} 137 0 1 ee {data}')
+        yield from (f'steal {way} {KEY} {IV} 136 0 1 ee {data}', f'steal {way} {KEY} {IV} 18446744073709551608 0 1 ee {data}')
+        yield f'steal {way} {KEY} {IV} 136 51 18446744073709551615 ee {data}'
+
+
 # a good line, and it with a word left out, added, doubled by a space or changed
 def bad_lines():
     good = (f'open CFB 8 E {KEY} {IV}', f'feed 8 2 1 ee {IV}', 'forecast CFB 3 9', f'pad 8 16 0 ee {IV}', f'unpad 128 {IV}',
-            f'neighbour {IV} {IV} 0', f'block {KEY} {IV} {IV} 0 16 0 ee', 'keep', 'alike')
+            f'neighbour {IV} {IV} 0', f'block {KEY} {IV} {IV} 0 16 0 ee', f'steal E {KEY} {IV} 136 18 1 ee {TEXT}', 'keep', 'alike')
     numbers = ('', '-', '-1', '+1', '0x8', '1a', '18446744073709551616', '99999999999999999999', '1.0', '8\r', '8\t')
     data = ('', '0', '000', '0A', 'AB', '0g', '--', '-00', '0-', '0x', '/0', ':0', '`0', 'g0', '\x80\x80', '\0\0')
     kinds = {'open': 'mnwbb', 'feed': 'nnnfb', 'forecast': 'mnn', 'pad': 'nnnfb', 'unpad': 'nb', 'neighbour': 'bbn',
-             'block': 'bbbnnnf'}
+             'block': 'bbbnnnf', 'steal': 'wbbnnnfb'}
     wrong = {'m': ('', 'ecb', 'CBCX', 'CB', 'Ecb', '-'), 'n': numbers, 'w': ('', 'e', 'd', 'ED', 'F', '-'),
              'b': data, 'f': data + ('-', '000000', 'e')}
     yield from ('', ' ', '  ', '?', 'close', 'Open', 'opens', 'kee', 'keep\0', '\r', '\xff')
@@ -217,10 +240,13 @@ def long_lines():
         yield f'neighbour {"00" * count} {IV} 0'
         yield f'block {"00" * count} {IV} {IV} 0 0 0 00'
         yield f'block {KEY} {"00" * count} {IV} 0 0 0 00'
+        yield f'steal E {"00" * count} {IV} 136 17 0 00 {TEXT}'
+        yield f'steal E {KEY} {"00" * count} 136 17 0 00 {TEXT}'
     yield f'open CTR 128 D {KEY} {IV}'
     most, more = LONGEST, LONGEST + 1
     yield f'feed 9 {most} {most - 2} 5a {"ff" * most}'
-    yield from (f'feed 9 {more} 0 5a ff', f'pad 9 {more} 0 5a ffff', f'block {KEY} {IV} {IV} 0 {more} 0 00')
+    yield from (f'feed 9 {more} 0 5a ff', f'pad 9 {more} 0 5a ffff', f'block {KEY} {IV} {IV} 0 {more} 0 00',
+                f'steal D {KEY} {IV} 136 {more} 0 00 {TEXT}')
     yield from (f'feed 9 2 0 5a {"ff" * more}', f'block {KEY} {IV} {"ff" * more} 0 16 0 00', f'feed 0 000{most} {most} 00 -')
     for length in (LINE, LINE + 1):
         yield f'neighbour {IV} {IV} '.ljust(length, '0')
@@ -247,7 +273,8 @@ def random_lines():
 
 def main():
     if sys.argv[1:] == ['lines']:
-        for lines in (first_lines, mode_lines, question_lines, forecast_lines, text_lines, bad_lines, random_lines, long_lines):
+        for lines in (first_lines, mode_lines, question_lines, forecast_lines, text_lines, steal_lines, bad_lines, random_lines,
+                      long_lines):
             for line in lines():
                 sys.stdout.buffer.write(line.encode('latin-1') + b'\n')
         # the last line has no line feed

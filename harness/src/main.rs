@@ -1,6 +1,7 @@
 // What other programs see of the proved code, held against a second implementation. The tests go by subject, a file each;
 // its `run` hands its tests to the report.
 mod aes;
+mod cost;
 mod modeline;
 mod openssl;
 mod process;
@@ -12,6 +13,7 @@ mod rng;
 mod scenario;
 mod sessions;
 mod stack;
+mod stealing;
 mod unpad;
 
 fn main() {
@@ -21,6 +23,7 @@ fn main() {
     scenario::run(&mut report);
     stack::run(&mut report);
     replay::run(&mut report);
+    stealing::run(&mut report);
     modeline::run(&mut report);
     unpad::run(&mut report);
     if !report.end() {

@@ -1,6 +1,6 @@
-// OpenSSL's libcrypto, the second implementation: the few functions of evp.h and aes.h that are needed, declared by hand.
+// OpenSSL's libcrypto, the second implementation: the few functions of evp.h, params.h and aes.h that are needed, declared by hand.
 use std::ffi::CString;
-use std::os::raw::{c_char, c_int, c_uchar};
+use std::os::raw::{c_char, c_int, c_uchar, c_uint, c_void};
 use std::ptr;
 
 #[repr(C)]
@@ -18,8 +18,35 @@ struct Engine {
     opaque: [u8; 0],
 }
 
+#[repr(C)]
+struct Library {
+    opaque: [u8; 0],
+}
+
+// OSSL_PARAM of core.h.
+#[repr(C)]
+struct Parameter {
+    key: *const c_char,
+    data_type: c_uint,
+    data: *mut c_void,
+    data_size: usize,
+    return_size: usize,
+}
+
 extern "C" {
     fn EVP_get_cipherbyname(name: *const c_char) -> *const Algorithm;
+    fn EVP_CIPHER_fetch(
+        library: *mut Library,
+        name: *const c_char,
+        properties: *const c_char,
+    ) -> *mut Algorithm;
+    fn EVP_CIPHER_free(algorithm: *mut Algorithm);
+    fn OSSL_PARAM_construct_utf8_string(
+        key: *const c_char,
+        text: *mut c_char,
+        size: usize,
+    ) -> Parameter;
+    fn OSSL_PARAM_construct_end() -> Parameter;
     fn EVP_CIPHER_CTX_new() -> *mut Context;
     fn EVP_CIPHER_CTX_free(context: *mut Context);
     fn EVP_CIPHER_CTX_set_padding(context: *mut Context, padding: c_int) -> c_int;
@@ -30,6 +57,14 @@ extern "C" {
         key: *const c_uchar,
         iv: *const c_uchar,
         encrypt: c_int,
+    ) -> c_int;
+    fn EVP_CipherInit_ex2(
+        context: *mut Context,
+        algorithm: *const Algorithm,
+        key: *const c_uchar,
+        iv: *const c_uchar,
+        encrypt: c_int,
+        parameters: *const Parameter,
     ) -> c_int;
     fn EVP_CipherUpdate(
         context: *mut Context,
@@ -88,6 +123,32 @@ impl Cipher {
                 encrypt,
             );
             assert!(begun == 1 && EVP_CIPHER_CTX_set_padding(context, 0) == 1);
+            Cipher { context }
+        }
+    }
+
+    // CBC with ciphertext stealing as RFC 2040 has it, which is OpenSSL's CS3. The whole message goes through in one update.
+    pub fn stealing(key: &[u8], iv: &[u8], direction: Direction) -> Cipher {
+        assert!(iv.len() == 16);
+        let name = CString::new(format!("AES-{}-CBC-CTS", 8 * key.len())).unwrap();
+        let cts_mode = CString::new("cts_mode").unwrap();
+        let mut cs3 = *b"CS3\0";
+        let encrypt = (direction == Direction::Encrypt) as c_int;
+        unsafe {
+            let algorithm = EVP_CIPHER_fetch(ptr::null_mut(), name.as_ptr(), ptr::null());
+            assert!(!algorithm.is_null(), "libcrypto has no {:?}", name);
+            let context = EVP_CIPHER_CTX_new();
+            assert!(!context.is_null());
+            let parameters = [
+                OSSL_PARAM_construct_utf8_string(cts_mode.as_ptr(), cs3.as_mut_ptr().cast(), 0),
+                OSSL_PARAM_construct_end(),
+            ];
+            let (key, iv) = (key.as_ptr(), iv.as_ptr());
+            let begun =
+                EVP_CipherInit_ex2(context, algorithm, key, iv, encrypt, parameters.as_ptr());
+            // the context keeps the algorithm
+            EVP_CIPHER_free(algorithm);
+            assert!(begun == 1);
             Cipher { context }
         }
     }

@@ -324,3 +324,70 @@ pub fn single_block(
     out[place..place + 16].copy_from_slice(&bytes(&plain));
     0
 }
+
+// Ciphertext stealing of a message (request 03). The answer is the number.
+pub fn steal(
+    direction: Direction,
+    key: &[u8],
+    iv: &[u8],
+    input: &[u8],
+    count: usize,
+    out: &mut [u8],
+    place: usize,
+) -> u8 {
+    let (number, mut session) = Session::open(Mode::Cbc, direction, 128, key, iv);
+    if number != 0 {
+        return number;
+    }
+    if count > 8 * input.len() || count > MAX_BITS {
+        return 6;
+    }
+    if count % 8 != 0 || count <= 128 {
+        return 13;
+    }
+    if place > out.len() || count / 8 > out.len() - place {
+        return 8;
+    }
+    let text = bits(&input[..count / 8]);
+    let worked = match direction {
+        Direction::Encrypt => steal_encrypt(&mut session, &text),
+        Direction::Decrypt => steal_decrypt(&mut session, &text),
+    };
+    out[place..place + count / 8].copy_from_slice(&bytes(&worked));
+    0
+}
+
+// Where the last 1 to 128 bits of a message begin.
+fn last_part(text: &[bool]) -> usize {
+    (text.len() - 1) / 128 * 128
+}
+
+// X is the ciphertext of the last full block before the tail.
+fn steal_encrypt(session: &mut Session, text: &[bool]) -> Vec<bool> {
+    let (full, tail) = text.split_at(last_part(text));
+    let mut cipher: Vec<bool> = full
+        .chunks(128)
+        .flat_map(|block| session.unit(block))
+        .collect();
+    let x = cipher.split_off(full.len() - 128);
+    let mut filled = tail.to_vec();
+    filled.resize(128, false);
+    cipher.extend(bits(&session.enc(&block(&sum(&filled, &x)))));
+    cipher.extend(&x[..tail.len()]);
+    cipher
+}
+
+// The block before the end is decrypted to (tail filled with 00) XOR X, which behind the tail has the bits of X.
+fn steal_decrypt(session: &mut Session, text: &[bool]) -> Vec<bool> {
+    let (full, end) = text.split_at(last_part(text));
+    let (front, before_end) = full.split_at(full.len() - 128);
+    let mixed = bits(&session.dec(&block(before_end)));
+    let x = [end, &mixed[end.len()..]].concat();
+    let mut plain: Vec<bool> = front
+        .chunks(128)
+        .flat_map(|block| session.unit(block))
+        .collect();
+    plain.extend(session.unit(&x));
+    plain.extend(sum(end, &mixed));
+    plain
+}

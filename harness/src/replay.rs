@@ -53,13 +53,13 @@ pub fn run(report: &mut Report) {
 }
 
 // The lines to run, each with the line that is expected of it, and the session as the reference has it.
-struct Script {
+pub struct Script {
     lines: Vec<(String, String)>,
     session: Session,
     kept: Session,
 }
 
-fn word(bytes: &[u8]) -> String {
+pub fn word(bytes: &[u8]) -> String {
     if bytes.is_empty() {
         "-".to_string()
     } else {
@@ -67,8 +67,15 @@ fn word(bytes: &[u8]) -> String {
     }
 }
 
+pub fn letter(direction: Direction) -> &'static str {
+    match direction {
+        Direction::Encrypt => "E",
+        Direction::Decrypt => "D",
+    }
+}
+
 impl Script {
-    fn new() -> Script {
+    pub fn new() -> Script {
         Script {
             lines: vec![],
             session: Session::refused(),
@@ -76,21 +83,21 @@ impl Script {
         }
     }
 
-    fn line(&mut self, line: String, expected: String) {
+    pub fn line(&mut self, line: String, expected: String) {
         self.lines.push((line, expected));
+    }
+
+    pub fn count(&self) -> usize {
+        self.lines.len()
     }
 
     fn open(&mut self, mode: Mode, direction: Direction, n: usize, key: &[u8], iv: &[u8]) {
         let (number, session) = Session::open(mode, direction, n, key, iv);
         self.session = session;
-        let letter = if direction == Direction::Encrypt {
-            "E"
-        } else {
-            "D"
-        };
         let line = format!(
-            "open {} {n} {letter} {} {}",
+            "open {} {n} {} {} {}",
             mode.name(),
+            letter(direction),
             word(key),
             word(iv)
         );
@@ -127,7 +134,7 @@ impl Script {
     }
 
     // Runs the lines and compares. The answer is what the program printed, line by line.
-    fn run(&self) -> Result<Vec<String>, String> {
+    pub fn run(&self) -> Result<Vec<String>, String> {
         let input: String = self
             .lines
             .iter()
@@ -149,11 +156,11 @@ impl Script {
     }
 }
 
-fn any_direction(rng: &mut Rng) -> Direction {
+pub fn any_direction(rng: &mut Rng) -> Direction {
     *rng.pick(&[Direction::Encrypt, Direction::Decrypt])
 }
 
-fn any_key(rng: &mut Rng) -> Vec<u8> {
+pub fn any_key(rng: &mut Rng) -> Vec<u8> {
     let length = *rng.pick(&[16, 24, 32]);
     rng.bytes(length)
 }
@@ -528,69 +535,87 @@ fn comparisons(rng: &mut Rng) -> Outcome {
     script.run().map(|_| ())
 }
 
+const BAD_LINES: &[&str] = &[
+    "",
+    " ",
+    "feed",
+    "feed ",
+    "open",
+    "Open CTR 128 E - -",
+    "open CTR 128 E -",
+    "open CTR 128 E - - ",
+    "open  CTR 128 E - -",
+    "open ctr 128 E - -",
+    "open GCM 128 E - -",
+    "open CTR -1 E - -",
+    "open CTR 1x E - -",
+    "open CTR 128 F - -",
+    "open CTR 128 E 0 -",
+    "open CTR 128 E 0G -",
+    "open CTR 128 E AB -",
+    "open CTR 18446744073709551616 E - -",
+    "feed 8 1 0 00",
+    "feed 8 1 0 00 00 00",
+    "feed 8 1 0 0 00",
+    "feed 8 1 0 000 00",
+    "feed 8 1 0 - 00",
+    "feed 8 18446744073709551616 0 00 00",
+    "feed x 1 0 00 00",
+    "feed 8 1 0 00 0",
+    "feed\t8 1 0 00 00",
+    "feed 8 1 0 00 00\r",
+    "forecast",
+    "forecast CTR 128",
+    "forecast CTR 128 8 8",
+    "forecast CTR 128 x",
+    "forecast CTR -1 8",
+    "forecast ctr 128 8",
+    "forecast CTR 128 18446744073709551616",
+    "pad 8 16 0 00",
+    "pad 8 16 0 00 zz",
+    "unpad 8",
+    "unpad 8 00 00",
+    "neighbour - -",
+    "neighbour - - x",
+    "block - - - 0 0 0",
+    "steal",
+    "steal E - - 136 17 0 00",
+    "steal E - - 136 17 0 00 00 00",
+    "steal  E - - 136 17 0 00 00",
+    "Steal E - - 136 17 0 00 00",
+    "steal e - - 136 17 0 00 00",
+    "steal F - - 136 17 0 00 00",
+    "steal E 0 - 136 17 0 00 00",
+    "steal E - AB 136 17 0 00 00",
+    "steal E - - -1 17 0 00 00",
+    "steal E - - 136 x 0 00 00",
+    "steal E - - 136 17 18446744073709551616 00 00",
+    "steal E - - 136 17 0 0 00",
+    "steal E - - 136 17 0 00 0",
+    "keep it",
+    "alike ",
+    "kept",
+    "\0",
+    "feed 8 1 0 00 00\0",
+];
+
 fn bad_lines(rng: &mut Rng) -> Outcome {
     let long = "0".repeat(MAX_LINE);
-    let bad: Vec<String> = [
-        "",
-        " ",
-        "feed",
-        "feed ",
-        "open",
-        "Open CTR 128 E - -",
-        "open CTR 128 E -",
-        "open CTR 128 E - - ",
-        "open  CTR 128 E - -",
-        "open ctr 128 E - -",
-        "open GCM 128 E - -",
-        "open CTR -1 E - -",
-        "open CTR 1x E - -",
-        "open CTR 128 F - -",
-        "open CTR 128 E 0 -",
-        "open CTR 128 E 0G -",
-        "open CTR 128 E AB -",
-        "open CTR 18446744073709551616 E - -",
-        "feed 8 1 0 00",
-        "feed 8 1 0 00 00 00",
-        "feed 8 1 0 0 00",
-        "feed 8 1 0 000 00",
-        "feed 8 1 0 - 00",
-        "feed 8 18446744073709551616 0 00 00",
-        "feed x 1 0 00 00",
-        "feed 8 1 0 00 0",
-        "feed\t8 1 0 00 00",
-        "feed 8 1 0 00 00\r",
-        "forecast",
-        "forecast CTR 128",
-        "forecast CTR 128 8 8",
-        "forecast CTR 128 x",
-        "forecast CTR -1 8",
-        "forecast ctr 128 8",
-        "forecast CTR 128 18446744073709551616",
-        "pad 8 16 0 00",
-        "pad 8 16 0 00 zz",
-        "unpad 8",
-        "unpad 8 00 00",
-        "neighbour - -",
-        "neighbour - - x",
-        "block - - - 0 0 0",
-        "keep it",
-        "alike ",
-        "kept",
-        "\0",
-        "feed 8 1 0 00 00\0",
-    ]
-    .iter()
-    .map(|line| line.to_string())
-    .chain([
-        format!("feed 8 {} 0 00 00", MAX_BYTES + 1),
-        format!("block - - - 0 {} 0 00", MAX_BYTES + 1),
-        format!("feed 8 1 0 00 {long}"),
-        format!("unpad 8 {long}"),
-        format!("neighbour - {long} 0"),
-        "x".repeat(1_000_000),
-        "feed ".repeat(100_000),
-    ])
-    .collect();
+    let bad: Vec<String> = BAD_LINES
+        .iter()
+        .map(|line| line.to_string())
+        .chain([
+            format!("feed 8 {} 0 00 00", MAX_BYTES + 1),
+            format!("block - - - 0 {} 0 00", MAX_BYTES + 1),
+            format!("steal E - - 136 {} 0 00 00", MAX_BYTES + 1),
+            format!("feed 8 1 0 00 {long}"),
+            format!("unpad 8 {long}"),
+            format!("neighbour - {long} 0"),
+            format!("steal E - - 136 17 0 00 {}", "00".repeat(MAX_BYTES + 1)),
+            "x".repeat(1_000_000),
+            "feed ".repeat(100_000),
+        ])
+        .collect();
     let mut script = Script::new();
     let (key, iv) = (any_key(rng), rng.bytes(16));
     script.open(Mode::Cfb, Direction::Encrypt, 3, &key, &iv);

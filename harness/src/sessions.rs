@@ -5,7 +5,7 @@ use crate::reference::{self, parts, Mode, MAX_UNITS, MODES};
 use crate::report::{equal, hex, Outcome, Report};
 use crate::rng::Rng;
 
-const KEY_LENGTHS: [usize; 3] = [16, 24, 32];
+pub const KEY_LENGTHS: [usize; 3] = [16, 24, 32];
 const DIRECTIONS: [(Direction, &str); 2] = [
     (Direction::Encrypt, "encrypts"),
     (Direction::Decrypt, "decrypts"),

@@ -259,7 +259,7 @@ packTo-ext (suc k) x y h =
     ap₂ (λ (b : ℕ) (bs : List ℕ). b ∷ bs) (byteOf-ext x y (λ i l. h i))
     (packTo-ext k (drop 8 x) (drop 8 y) (λ i. simp getD-drop (h (8 + i))))
 
-bits-packTo-pad : (k : ℕ) (x : List Bool) → length x ≤ k * 8 → bits (packTo k x) ≡ x ++ replicate (k * 8 - length x) false
+pub bits-packTo-pad : (k : ℕ) (x : List Bool) → length x ≤ k * 8 → bits (packTo k x) ≡ x ++ replicate (k * 8 - length x) false
 bits-packTo-pad k x h =
     ap bits (packTo-ext k x (x ++ replicate (k * 8 - length x) false) (λ i. sym (getD-pad x (k * 8 - length x) i)))
     ∙ bits-packTo k (x ++ replicate (k * 8 - length x) false) (simp (length-append, length-replicate) (omega arith))

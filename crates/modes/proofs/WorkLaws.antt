@@ -33,7 +33,7 @@ use Rattle.modes.specs.declared.work.Progress.{Progress}
 use Rattle.modes.specs.Works.{Workable, RunsUnder, UnitWorked, Worked}
 use Rattle.units.proofs.TurnLaws.{out-same, next-same}
 
-drop-take : {A : Type 0} (a c : ℕ) (z : List A) → drop a (take c z) ≡ take (c - a) (drop a z)
+pub drop-take : {A : Type 0} (a c : ℕ) (z : List A) → drop a (take c z) ≡ take (c - a) (drop a z)
 drop-take zero c z = ap (λ k. take k z) (sym (sub-zero c))
 drop-take (suc a) zero z = sym (ap (λ k. take k (drop (suc a) z)) (zero-sub (suc a)))
 drop-take (suc a) (suc c) [] = sym (take-nil (suc c - suc a))
@@ -163,7 +163,7 @@ unfolding bytesFor
 fewer a b h = omega arith
 
 -- A unit's bits go behind those before it.
-put-next : (x s : List Bool) (old : List ℕ) (at : ℕ) {out after : List ℕ} → length x ≡ at → out ≡ pack x ++ drop (bytesFor (length x)) old → after ≡ putBits out at s
+pub put-next : (x s : List Bool) (old : List ℕ) (at : ℕ) {out after : List ℕ} → length x ≡ at → out ≡ pack x ++ drop (bytesFor (length x)) old → after ≡ putBits out at s
     → after ≡ pack (x ++ s) ++ drop (bytesFor (length (x ++ s))) old
 put-next x s old at e o p =
     p ∙ ap₂ (λ b k. putBits b k s) o (sym e) ∙ put-after x s old ∙ ap (λ k. pack (x ++ s) ++ drop (bytesFor k) old) (sym (length-append x s))

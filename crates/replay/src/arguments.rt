@@ -68,15 +68,17 @@ pub enum TextWords {
     Bad,
 }
 
-// BITS OUTLEN PLACE FILL INPUT. The bytes are at the front of `input`.
-pub fn text_words(line: &[u8], input: &mut [u8]) -> TextWords {
-    let Number::Value(bits) = decimal(word(line, 1)) else {
+// BITS OUTLEN PLACE FILL INPUT, of which BITS is word k. The bytes are at the front of `input`.
+pub fn text_words(line: &[u8], k: usize, input: &mut [u8]) -> TextWords
+    requires { ⌜ k ≤ 4 ⌝ }
+{
+    let Number::Value(bits) = decimal(word(line, k)) else {
         return TextWords::Bad;
     };
-    let OutputWords::Given(output) = output_words(line, 2) else {
+    let OutputWords::Given(output) = output_words(line, k + 1) else {
         return TextWords::Bad;
     };
-    let count = hex::bytes(word(line, 5), input);
+    let count = hex::bytes(word(line, k + 4), input);
     if input.len() < count {
         return TextWords::Bad;
     }

@@ -14,6 +14,7 @@ pub enum Command {
     Unpad,
     Neighbour,
     Block,
+    Steal,
     Keep,
     Alike,
     Unknown,
@@ -50,6 +51,9 @@ fn named(line: &[u8]) -> Command {
     }
     if is(name, count, b"block", 8) {
         return Command::Block;
+    }
+    if is(name, count, b"steal", 9) {
+        return Command::Steal;
     }
     if is(name, count, b"keep", 1) {
         return Command::Keep;
@@ -92,6 +96,7 @@ pub fn run(
         Command::Unpad => state.with_end(texts::unpad(line, input, text, end)),
         Command::Neighbour => state.with_end(texts::neighbour(line, input, text, end)),
         Command::Block => state.with_end(texts::block(line, input, out, text, end)),
+        Command::Steal => state.with_end(texts::steal(line, input, out, text, end)),
         Command::Keep => keep(text, state),
         Command::Alike => state.with_end(alike(text, state)),
         Command::Unknown => state.with_end(print::bad(text, end)),

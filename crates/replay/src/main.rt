@@ -2,15 +2,16 @@
 // transmission is replayed, or a test drives lists of feeds. Bytes are lower-case hexadecimal, `-` for none; numbers are
 // decimal; FILL is the byte that the output holds before the call.
 //
-//     open MODE N E|D KEY IV                  NUMBER
-//     feed BITS OUTLEN PLACE FILL INPUT       NUMBER OUT R UNITS CLOSED RUNS
-//     forecast MODE N BITS                    NUMBER BYTES RUNS
-//     pad BITS OUTLEN PLACE FILL INPUT        NUMBER LENGTH OUT
-//     unpad BITS INPUT                        NUMBER LENGTH
-//     neighbour IV TEXT J                     the part
-//     block KEY IV TEXT J OUTLEN PLACE FILL   NUMBER OUT
-//     keep                                    kept: `alike` compares with this session from now on
-//     alike                                   yes or no
+//     open MODE N E|D KEY IV                         NUMBER
+//     feed BITS OUTLEN PLACE FILL INPUT              NUMBER OUT R UNITS CLOSED RUNS
+//     forecast MODE N BITS                           NUMBER BYTES RUNS
+//     pad BITS OUTLEN PLACE FILL INPUT               NUMBER LENGTH OUT
+//     unpad BITS INPUT                               NUMBER LENGTH
+//     neighbour IV TEXT J                            the part
+//     block KEY IV TEXT J OUTLEN PLACE FILL          NUMBER OUT
+//     steal E|D KEY IV BITS OUTLEN PLACE FILL INPUT  NUMBER OUT
+//     keep                                           kept: `alike` compares with this session from now on
+//     alike                                          yes or no
 //
 // A session that a refused opening gave is there before the first `open` and `keep`. A line of another form prints `?` and
 // changes nothing; so does one that is too long: INPUT, TEXT and OUTLEN have at most `MAX_BYTES` bytes, and the whole line, without

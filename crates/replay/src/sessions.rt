@@ -109,7 +109,7 @@ pub fn feed(
         bits,
         output,
         count,
-    } = text_words(line, input)
+    } = text_words(line, 1, input)
     else {
         return bad(state, text);
     };

@@ -1,4 +1,4 @@
-// The commands that need no session: pad, unpad, neighbour and block. Each gives the next `end` of the output.
+// The commands that need no session: pad, unpad, neighbour, block and steal. Each gives the next `end` of the output.
 use crate::arguments::BlockWords;
 use crate::arguments::Output;
 use crate::arguments::OutputWords;
@@ -14,6 +14,9 @@ use crate::parts::fill;
 use crate::parts::first;
 use crate::print;
 use crate::words::word;
+use grammar::DirectionWord;
+use grammar::direction_word;
+use rules::Direction;
 
 fn pad_into(
     input: &[u8],
@@ -42,7 +45,7 @@ pub fn pad(
         bits,
         output,
         count,
-    } = text_words(line, input)
+    } = text_words(line, 1, input)
     else {
         return print::bad(text, end);
     };
@@ -144,6 +147,88 @@ pub fn block(
         first(&iv_bytes, iv.count),
         first(input, count),
         j,
+        out,
+        output,
+        text,
+        end,
+    )
+}
+
+fn stolen(
+    direction: Direction,
+    key: &[u8],
+    iv: &[u8],
+    input: &[u8],
+    bits: usize,
+    out: &mut [u8],
+    place: usize,
+) -> u8 {
+    match direction {
+        Direction::Encrypt => stealing::encrypt(key, iv, input, bits, out, place),
+        Direction::Decrypt => stealing::decrypt(key, iv, input, bits, out, place),
+    }
+}
+
+fn steal_into(
+    direction: Direction,
+    key: Short,
+    iv: Short,
+    input: &[u8],
+    bits: usize,
+    out: &mut [u8],
+    output: Output,
+    text: &mut [u8; 65536],
+    end: usize,
+) -> usize {
+    let key_bytes = key.bytes;
+    let iv_bytes = iv.bytes;
+    let room = fill(out, output.size, output.fill);
+    let number = stolen(
+        direction,
+        first(&key_bytes, key.count),
+        first(&iv_bytes, iv.count),
+        input,
+        bits,
+        &mut out[..room],
+        output.place,
+    );
+    let at = print::number(text, end, number as u64, b' ');
+    print::bytes(text, at, first(out, room), b'\n')
+}
+
+// steal E|D KEY IV BITS OUTLEN PLACE FILL INPUT
+pub fn steal(
+    line: &[u8],
+    input: &mut [u8],
+    out: &mut [u8],
+    text: &mut [u8; 65536],
+    end: usize,
+) -> usize {
+    let DirectionWord::Named(direction) = direction_word(word(line, 1)) else {
+        return print::bad(text, end);
+    };
+    let key = hex::short_bytes(word(line, 2));
+    if !key.good {
+        return print::bad(text, end);
+    }
+    let iv = hex::short_bytes(word(line, 3));
+    if !iv.good {
+        return print::bad(text, end);
+    }
+    let TextWords::Given {
+        bits,
+        output,
+        count,
+    } = text_words(line, 4, input)
+    else {
+        return print::bad(text, end);
+    };
+    steal_into(
+        direction,
+        key,
+        iv,
+        first(input, count),
+        bits,
         out,
         output,
         text,

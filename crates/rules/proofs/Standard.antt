@@ -104,7 +104,7 @@ module _ {enc dec : List ℕ → List ℕ} (ciphers : BlockCipher enc dec) (n : 
       ∙ ap (λ (b : List ℕ). xorBits (unitAt n x t) (msb (length (unitAt n x t)) (ciph enc dec (bits b)))) (ctr-counter dir t)
 
 module _ {enc dec : List ℕ → List ℕ} (ciphers : BlockCipher enc dec) (n : ℕ) (iv : List ℕ) (x : List Bool) where
-  standard-at : (mode : Mode) (dir : Direction) → unitLengthOk mode n ≡ true → wholeUnits mode n (length x) ≡ true → Block (start mode iv)
+  pub standard-at : (mode : Mode) (dir : Direction) → unitLengthOk mode n ≡ true → wholeUnits mode n (length x) ≡ true → Block (start mode iv)
       → (t : ℕ) → t < unitsIn n (length x) → outAt enc dec mode dir n (start mode iv) x t ≡ standardAt enc dec mode dir n iv (unitAt n x) t
   unfolding outAt outOf start standardAt wholeUnits
   standard-at Ecb Encrypt ok whole block t h = ecb-cipher enc dec (registerAt enc dec Ecb Encrypt n (start Ecb iv) x t) (unitAt n x t)
