@@ -1,12 +1,15 @@
--- A rule for all numbers below n, and the rule of a table at each of its entries, each from one test that antt computes.
--- Assumes nothing.
-use mathlib.Core.Path.{_≡_}
+-- A rule for all numbers below n, and the rule of a table at each of its entries, each from one test that antt computes; and the
+-- rule of a list that a loop fills, one store a turn. Assumes nothing.
+use mathlib.Core.Path.{_≡_, refl}
 use mathlib.Core.Bool.{Bool, true, false}
 use mathlib.Core.List.{List, [], _∷_}
-use Prim.Native.Nat.{ℕ, zero, suc, _<_}
+use Prim.Native.Nat.{ℕ, zero, suc, _+_, _≤_, _<_}
 use native.Mathlib.Nat.{le-of-suc-le-suc, not-suc-le-zero}
-use lib.Dec.{T, eqb, eqb→eq}
-use lib.ListN.{length, getD}
+use native.Mathlib.Omega.{arith}
+use lib.Dec.{T, eqb, eqb→eq, ltb}
+use lib.ListN.{length, getD, set}
+use lib.Seq.{getD-set-same, getD-set-other}
+use borrow.Author.Tests.{ltb-true, ltb-false}
 
 abbrev pub both : Bool → Bool → Bool
 both true b = b
@@ -44,3 +47,22 @@ entry f [] t k h = absurd (not-suc-le-zero h)
 entry f (x ∷ xs) t zero h = eqb→eq x (f 0) (both-left (eqb x (f 0)) (tabulated (λ k. f (suc k)) xs) t)
 entry f (x ∷ xs) t (suc k) h =
     entry (λ k. f (suc k)) xs (both-right (eqb x (f 0)) (tabulated (λ k. f (suc k)) xs) t) k (le-of-suc-le-suc h)
+
+-- ---- a list that is filled
+
+-- what is below i + 1 is below i, or i
+below-next : (i : ℕ) (P : ℕ → Type 0) → ((j : ℕ) → j < i → P j) → P i → (j : ℕ) → j < i + 1 → P j
+below-next i P p q j h = go (ltb j i) refl
+  where
+    go : (t : Bool) → ltb j i ≡ t → P j
+    go true e = p j (ltb-true j i e)
+    go false e =
+        let above : i ≤ j = ltb-false j i e in
+        let same : j ≡ i = omega arith in
+        rw same q
+
+-- P holds of the elements before place i, and of the one that is stored there
+pub stored-next : (l : List ℕ) (i v : ℕ) → i < length l → (P : ℕ → ℕ → Type 0) → ((j : ℕ) → j < i → P j (getD l j 0)) → P i v
+    → (j : ℕ) → j < i + 1 → P j (getD (set l i v) j 0)
+stored-next l i v room P h e =
+    below-next i (λ j. P j (getD (set l i v) j 0)) (λ j hj. rw (getD-set-other l i j v 0 (λ x. omega arith)) (h j hj)) (rw (getD-set-same l i v 0 room) e)

@@ -1,15 +1,11 @@
--- The rule of the S-boxes: the inverse is the inverse, the two boxes undo each other, and a table holds a rule when one
--- computed test over its entries says so. Assumes nothing.
+-- The rule of the S-boxes: the inverse is the inverse, and the two boxes undo each other. Assumes nothing.
 use mathlib.Core.Path.{_≡_, refl, sym, ap, _∙_}
-use mathlib.Core.List.{List}
 use Prim.Native.Nat.{ℕ, zero, suc, _+_, _/_, _<_}
 use native.Mathlib.Omega.{arith}
-use lib.Dec.{T, eqb, eqb→eq}
-use lib.ListN.{length}
 use Rattle.bits.specs.Xor.{xor}
-use Rattle.bits.proofs.Tables.{agree, tabulated, entry as entry-of}
+use Rattle.bits.proofs.Tables.{agree}
 use Rattle.field.specs.Field.{double, shiftAdd, product, square, squares, inverse}
-use Rattle.field.specs.Boxes.{low, fromBits, affine, unaffine, subByte, invSubByte, Tabulates}
+use Rattle.field.specs.Boxes.{low, fromBits, affine, unaffine, subByte, invSubByte}
 use Rattle.field.specs.Promises.{InverseOfBytes, BoxesUndoEachOther}
 use Rattle.field.proofs.FieldLaws.{product-byte}
 use Rattle.field.proofs.Inverses.{listedInverse, listed-inverse}
@@ -36,7 +32,7 @@ pub subByte-byte : (b : ℕ) → subByte b < 256
 unfolding subByte affine
 subByte-byte b = fromBits-byte (λ i. low (inverse b) i + low (inverse b) (i + 4) + low (inverse b) (i + 5) + low (inverse b) (i + 6) + low (inverse b) (i + 7) + low 0x63 i)
 
-unaffine-byte : (b : ℕ) → unaffine b < 256
+pub unaffine-byte : (b : ℕ) → unaffine b < 256
 unfolding unaffine
 unaffine-byte b = fromBits-byte (λ i. low b (i + 2) + low b (i + 5) + low b (i + 7) + low 0x05 i)
 
@@ -55,6 +51,11 @@ inverse-inverse b h =
     sym (listed-inverse (inverse b) (inverse-byte b)) ∙ ap listedInverse (sym (listed-inverse b h))
     ∙ agree (λ b. listedInverse (listedInverse b)) (λ b. b) 256 tt b h
 
+-- SubBytes with its affine map undone
+pub unaffine-sub : (b : ℕ) → unaffine (subByte b) ≡ inverse b
+unfolding subByte
+unaffine-sub b = unaffine-affine (inverse b) (inverse-byte b)
+
 pub invSubByte-byte : (b : ℕ) → invSubByte b < 256
 unfolding invSubByte
 invSubByte-byte b = inverse-byte (unaffine b)
@@ -64,8 +65,13 @@ unfolding subByte invSubByte
 sub-inv b h = ap affine (inverse-inverse (unaffine b) (unaffine-byte b)) ∙ affine-unaffine b h
 
 pub inv-sub : (b : ℕ) → b < 256 → invSubByte (subByte b) ≡ b
-unfolding subByte invSubByte
-inv-sub b h = ap inverse (unaffine-affine (inverse b) (inverse-byte b)) ∙ inverse-inverse b h
+unfolding invSubByte
+inv-sub b h = ap inverse (unaffine-sub b) ∙ inverse-inverse b h
+
+-- SubBytes by the listed inverses
+pub listed-sub : (b : ℕ) → b < 256 → affine (listedInverse b) ≡ subByte b
+unfolding subByte
+listed-sub b h = ap affine (listed-inverse b h)
 
 -- ---- the promises
 
@@ -77,22 +83,3 @@ inverse-of-bytes =
 pub boxes-undo-each-other : BoxesUndoEachOther
 boxes-undo-each-other =
     record { sub-byte = subByte-byte; inv-sub-byte = invSubByte-byte; inv-sub = inv-sub; sub-inv = sub-inv }
-
--- ---- a table
-
-pub tabulates : (f : ℕ → ℕ) (table : List ℕ) → T (eqb (length table) 256) → T (tabulated f table) → Tabulates f table
-tabulates f table s t =
-    let e : length table ≡ 256 = eqb→eq (length table) 256 s in
-    record { entries = e; entry = λ b h. entry-of f table t b (omega arith) }
-
--- the rules by the listed inverses
-pub listed-sub : (b : ℕ) → b < 256 → affine (listedInverse b) ≡ subByte b
-unfolding subByte
-listed-sub b h = ap affine (listed-inverse b h)
-
-pub listed-inv-sub : (b : ℕ) → listedInverse (unaffine b) ≡ invSubByte b
-unfolding invSubByte
-listed-inv-sub b = listed-inverse (unaffine b) (unaffine-byte b)
-
-pub tabulates-too : {f g : ℕ → ℕ} {table : List ℕ} → Tabulates f table → ((b : ℕ) → b < 256 → f b ≡ g b) → Tabulates g table
-tabulates-too tab e = record { entries = tab .entries; entry = λ b h. tab .entry b h ∙ e b h }

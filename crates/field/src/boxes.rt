@@ -1,7 +1,9 @@
-// SubBytes of single bytes: the two tables of FIPS 197, figures 7 and 14, and their use.
+// SubBytes of single bytes: the table of FIPS 197, figure 7, that of the inverse by its formula, and their use.
 ghost use mathlib.Core.Path.{_≡_};
 ghost use lib.ListN.{getD};
 ghost use Rattle.field.specs.Rows.{four};
+ghost use Rattle.field.specs.Field.{inverse};
+ghost use Rattle.field.specs.Boxes as Boxes;
 ghost use Rattle.field.specs.Boxes.{subByte, invSubByte, Tabulates};
 
 const SBOX: [u8; 256] = *b"\
@@ -22,24 +24,6 @@ const SBOX: [u8; 256] = *b"\
     \xe1\xf8\x98\x11\x69\xd9\x8e\x94\x9b\x1e\x87\xe9\xce\x55\x28\xdf\
     \x8c\xa1\x89\x0d\xbf\xe6\x42\x68\x41\x99\x2d\x0f\xb0\x54\xbb\x16";
 
-const INV_SBOX: [u8; 256] = *b"\
-    \x52\x09\x6a\xd5\x30\x36\xa5\x38\xbf\x40\xa3\x9e\x81\xf3\xd7\xfb\
-    \x7c\xe3\x39\x82\x9b\x2f\xff\x87\x34\x8e\x43\x44\xc4\xde\xe9\xcb\
-    \x54\x7b\x94\x32\xa6\xc2\x23\x3d\xee\x4c\x95\x0b\x42\xfa\xc3\x4e\
-    \x08\x2e\xa1\x66\x28\xd9\x24\xb2\x76\x5b\xa2\x49\x6d\x8b\xd1\x25\
-    \x72\xf8\xf6\x64\x86\x68\x98\x16\xd4\xa4\x5c\xcc\x5d\x65\xb6\x92\
-    \x6c\x70\x48\x50\xfd\xed\xb9\xda\x5e\x15\x46\x57\xa7\x8d\x9d\x84\
-    \x90\xd8\xab\x00\x8c\xbc\xd3\x0a\xf7\xe4\x58\x05\xb8\xb3\x45\x06\
-    \xd0\x2c\x1e\x8f\xca\x3f\x0f\x02\xc1\xaf\xbd\x03\x01\x13\x8a\x6b\
-    \x3a\x91\x11\x41\x4f\x67\xdc\xea\x97\xf2\xcf\xce\xf0\xb4\xe6\x73\
-    \x96\xac\x74\x22\xe7\xad\x35\x85\xe2\xf9\x37\xe8\x1c\x75\xdf\x6e\
-    \x47\xf1\x1a\x71\x1d\x29\xc5\x89\x6f\xb7\x62\x0e\xaa\x18\xbe\x1b\
-    \xfc\x56\x3e\x4b\xc6\xd2\x79\x20\x9a\xdb\xc0\xfe\x78\xcd\x5a\xf4\
-    \x1f\xdd\xa8\x33\x88\x07\xc7\x31\xb1\x12\x10\x59\x27\x80\xec\x5f\
-    \x60\x51\x7f\xa9\x19\xb5\x4a\x0d\x2d\xe5\x7a\x9f\x93\xc9\x9c\xef\
-    \xa0\xe0\x3b\x4d\xae\x2a\xf5\xb0\xc8\xeb\xbb\x3c\x83\x53\x99\x61\
-    \x17\x2b\x04\x7e\xba\x77\xd6\x26\xe1\x69\x14\x63\x55\x21\x0c\x7d";
-
 // The table of SubBytes. Held in a local and lent, since a constant is copied wherever it is named.
 pub fn sbox() -> [u8; 256]
     ensures { λ r. ⌜ Tabulates subByte r ⌝ }
@@ -47,11 +31,58 @@ pub fn sbox() -> [u8; 256]
     SBOX
 }
 
-// The table of InvSubBytes.
+// The affine map undone: the byte turned left by 1, 3 and 6 places, and 05.
+fn unaffine(b: u8) -> u8
+    ensures { λ r. ⌜ r ≡ Boxes.unaffine b ⌝ }
+{
+    (b << 1) ^ (b >> 7) ^ (b << 3) ^ (b >> 5) ^ (b << 6) ^ (b >> 2) ^ 0x05
+}
+
+fn unaffine_table() -> [u8; 256]
+    ensures { λ r. ⌜ Tabulates Boxes.unaffine r ⌝ }
+{
+    let mut table = [0; 256];
+    let mut i: usize = 0;
+    while i < 256 {
+        table[i] = unaffine(i as u8);
+        i += 1;
+    }
+    table
+}
+
+// The inverses in the field. SubBytes of a byte is the affine map of its inverse, so with that map undone the S-box gives it.
+fn inverse_table() -> [u8; 256]
+    ensures { λ r. ⌜ Tabulates inverse r ⌝ }
+{
+    let sbox = sbox();
+    let mut table = [0; 256];
+    let mut i: usize = 0;
+    while i < 256 {
+        table[i] = unaffine(sbox[i]);
+        i += 1;
+    }
+    table
+}
+
+// The table of `outer` after `inner`.
+fn composed(outer: &[u8; 256], inner: &[u8; 256]) -> [u8; 256]
+    ensures { λ r. ⌜ Tabulates (λ i. getD (now (outer .entry)) (getD (now (inner .entry)) i 0) 0) r ⌝ }
+{
+    let mut table = [0; 256];
+    let mut i: usize = 0;
+    while i < 256 {
+        table[i] = substitute(outer, inner[i]);
+        i += 1;
+    }
+    table
+}
+
+// The table of InvSubBytes, by its formula: the affine map undone, then the inverse. Each step is a loop of its own over all bytes,
+// since the compiler then undoes the map for many of them at once.
 pub fn inv_sbox() -> [u8; 256]
     ensures { λ r. ⌜ Tabulates invSubByte r ⌝ }
 {
-    INV_SBOX
+    composed(&inverse_table(), &unaffine_table())
 }
 
 // A table's entry for a byte.

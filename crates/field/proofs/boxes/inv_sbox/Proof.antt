@@ -1,13 +1,25 @@
--- The table holds the rule of InvSubBytes at all 256 entries: one test, which antt computes. Assumes nothing.
-use Rattle.field.specs.Boxes.{low, fromBits, unaffine}
-use Rattle.field.proofs.Inverses.{listedInverse}
-use Rattle.field.proofs.BoxLaws.{tabulates, tabulates-too, listed-inv-sub}
+-- The formula is the one step after the other (`TableLaws`). Assumes nothing.
+use borrow.Author.Needs.{needs}
+use Rattle.field.specs.Boxes.{invSubByte}
+use Rattle.field.proofs.BoxLaws.{unaffine-byte}
+use Rattle.field.proofs.TableLaws.{tabulates-composed}
 use Rattle.field.proofs.boxes.inv_sbox.Statement.{statement}
 use Rattle.field.proofs.boxes.inv_sbox.Tie as tie
 
+inverse-table-requires : tie.Need-inverse-table-requires
+inverse-table-requires c κs = search needs
+
+unaffine-table-requires : tie.Need-unaffine-table-requires
+unaffine-table-requires c κs = search needs
+
+composed-requires : tie.Need-composed-requires
+composed-requires c κs = search needs
+
 returns : tie.Need-returns
-unfolding listedInverse low fromBits unaffine
-returns c = tabulates-too (tabulates (λ b. listedInverse (unaffine b)) _ tt tt) (λ b h. listed-inv-sub b)
+unfolding invSubByte
+returns c =
+    tabulates-composed unaffine-byte (c .before .before .before .before .inverse-table .ensures) (c .before .before .unaffine-table .ensures) (c .composed .ensures)
 
 pub inv-sbox-spec : {M : Type 1} → statement M
-inv-sbox-spec = tie.close (tie.spec returns)
+inv-sbox-spec =
+    tie.close (tie.spec inverse-table-requires unaffine-table-requires composed-requires returns)

@@ -1,7 +1,8 @@
 -- The table holds the rule of SubBytes at all 256 entries: one test, which antt computes. Assumes nothing.
 use Rattle.field.specs.Boxes.{low, fromBits, affine}
 use Rattle.field.proofs.Inverses.{listedInverse}
-use Rattle.field.proofs.BoxLaws.{tabulates, tabulates-too, listed-sub}
+use Rattle.field.proofs.BoxLaws.{listed-sub}
+use Rattle.field.proofs.TableLaws.{tabulates, tabulates-too}
 use Rattle.field.proofs.boxes.sbox.Statement.{statement}
 use Rattle.field.proofs.boxes.sbox.Tie as tie
 
