@@ -22,6 +22,8 @@ struct lent {
     bool decrypting;
     GUARD(before_n);
     size_t n;
+    GUARD(before_m);
+    size_t m;
     GUARD(before_rounds);
     size_t rounds;
     GUARD(before_keys);
@@ -47,8 +49,8 @@ struct lent {
 static const struct {
     size_t at;
     const char *name;
-} PARTS[] = {PART(key),  PART(iv),    PART(block),  PART(mode), PART(decrypting), PART(n),     PART(rounds), PART(keys),
-             PART(reg),  PART(units), PART(closed), PART(runs), PART(session),    PART(input), PART(out)};
+} PARTS[] = {PART(key), PART(iv),    PART(block),  PART(mode), PART(decrypting), PART(n),     PART(m),  PART(rounds), PART(keys),
+             PART(reg), PART(units), PART(closed), PART(runs), PART(session),    PART(input), PART(out)};
 
 static struct lent lent, expected;
 static int checks, failures;
@@ -211,24 +213,33 @@ static const struct {
     {CONGURAHA_CTR, "f0f1f2f3f4f5f6f7f8f9fafbfcfdfeff", "874d6191b620e3261bef6864990db6ce9806f66b7970fdff8617187bb9fffdff",
      "f0f1f2f3f4f5f6f7f8f9fafbfcfdff01"},
 };
+static const size_t NO_COUNTER[] = {0, 129, 255, 256 + 128, 4294967296u + 128, SIZE_MAX};
 static const size_t NO_MODE[] = {5, 255, 256, 258, 65538, 4294967298u, SIZE_MAX};
 
-/* The call with the fields apart; all that it writes is lent. */
+/* The calls with the fields apart; all that they write is lent. */
 static uint8_t open_fields(size_t mode, bool decrypting, size_t n, size_t key_length, size_t iv_length)
 {
     return conguraha_open(mode, decrypting, n, key_length ? lent.key : NULL, key_length, iv_length ? lent.iv : NULL, iv_length,
-                          &lent.mode, &lent.decrypting, &lent.n, &lent.rounds, lent.keys, lent.reg, &lent.units, &lent.closed);
+                          &lent.mode, &lent.decrypting, &lent.n, &lent.m, &lent.rounds, lent.keys, lent.reg, &lent.units,
+                          &lent.closed);
+}
+
+static uint8_t open_counter_fields(size_t mode, bool decrypting, size_t n, size_t m, size_t key_length, size_t iv_length)
+{
+    return conguraha_open_counter(mode, decrypting, n, m, key_length ? lent.key : NULL, key_length, iv_length ? lent.iv : NULL,
+                                  iv_length, &lent.mode, &lent.decrypting, &lent.n, &lent.m, &lent.rounds, lent.keys, lent.reg,
+                                  &lent.units, &lent.closed);
 }
 
 static uint8_t feed_fields(size_t input_length, size_t bits, size_t out_length, size_t place)
 {
-    return conguraha_feed(lent.mode, lent.decrypting, lent.n, lent.rounds, lent.keys, lent.reg, &lent.units, &lent.closed,
+    return conguraha_feed(lent.mode, lent.decrypting, lent.n, lent.m, lent.rounds, lent.keys, lent.reg, &lent.units, &lent.closed,
                           input_length ? lent.input : NULL, input_length, bits, out_length ? lent.out : NULL, out_length, place,
                           &lent.runs);
 }
 
-/* Lends the first key and the IV of the mode of that number, and opens. The round keys are those that aes_expand gives. */
-static void opened(size_t mode, bool decrypting, size_t n)
+/* Lends the first key and the IV of the mode of that number, and gives the IV's length. */
+static size_t lend_opening(size_t mode, bool decrypting)
 {
     fill();
     lent.decrypting = !decrypting;
@@ -236,15 +247,37 @@ static void opened(size_t mode, bool decrypting, size_t n)
     hex(lent.key, EXPANSIONS[0].key);
     size_t iv_length = hex(lent.iv, TEXTS[mode].iv);
     as_lent();
-    uint8_t answer = open_fields(TEXTS[mode].mode, decrypting, n, 16, iv_length);
+    return iv_length;
+}
+
+/* The round keys are those that aes_expand gives. */
+static void expect_opened(size_t mode, bool decrypting, size_t n, size_t m)
+{
     expected.mode = mode;
     expected.decrypting = decrypting;
     expected.n = n;
+    expected.m = m;
     conguraha_aes_expand(expected.key, 16, &expected.rounds, expected.keys);
     memset(expected.reg, 0, 16);
     hex(expected.reg, TEXTS[mode].iv);
     expected.units = 0;
     expected.closed = false;
+}
+
+static void opened_counter(size_t mode, bool decrypting, size_t n, size_t m)
+{
+    size_t iv_length = lend_opening(mode, decrypting);
+    uint8_t answer = open_counter_fields(TEXTS[mode].mode, decrypting, n, m, 16, iv_length);
+    expect_opened(mode, decrypting, n, m);
+    check("open_counter", m, answer, CONGURAHA_OK);
+}
+
+static void opened(size_t mode, bool decrypting, size_t n)
+{
+    opened_counter(mode, decrypting, n, 128);
+    size_t iv_length = lend_opening(mode, decrypting);
+    uint8_t answer = open_fields(TEXTS[mode].mode, decrypting, n, 16, iv_length);
+    expect_opened(mode, decrypting, n, 128);
     check("open", mode, answer, CONGURAHA_OK);
 }
 
@@ -267,18 +300,63 @@ static void texts(void)
         }
 }
 
-static void refused_opening(size_t mode, size_t n, size_t key_length, size_t iv_length, unsigned wanted)
+/* The counter of m bits: in the second counter block the lowest m bits of the IV, which ends in ff, have counted up, and the
+   others have stayed. From m = 9 on that is the block of appendix F. */
+static void counters(void)
 {
-    fill();
-    lent.decrypting = true;
-    as_lent();
-    uint8_t answer = open_fields(mode, true, n, key_length, iv_length);
-    expected.mode = expected.n = expected.rounds = 0;
+    for (size_t m = 1; m <= 128; m++)
+        for (int decrypting = 0; decrypting < 2; decrypting++) {
+            opened_counter(CONGURAHA_CTR, decrypting, 128, m);
+            hex(lent.input, decrypting ? TEXTS[CONGURAHA_CTR].cipher : TEXT);
+            memcpy(expected.input, lent.input, 32);
+            uint8_t answer = feed_fields(32, 256, 37, 5);
+            hex(expected.out + 5, decrypting ? TEXT : TEXTS[CONGURAHA_CTR].cipher);
+            hex(expected.reg, TEXTS[CONGURAHA_CTR].reg);
+            if (m < 9) {
+                uint8_t counter[CONGURAHA_BLOCK], mask[CONGURAHA_BLOCK];
+                memcpy(counter, expected.iv, sizeof counter);
+                counter[15] = (uint8_t)(0xff << m);
+                conguraha_aes_encrypt(expected.key, 16, counter, mask);
+                for (size_t i = 0; i < sizeof mask; i++)
+                    expected.out[5 + 16 + i] = expected.input[16 + i] ^ mask[i];
+                memcpy(expected.reg, counter, sizeof counter);
+                expected.reg[15] = (uint8_t)(counter[15] + 1);
+            }
+            expected.units = 2;
+            expected.runs = 2;
+            check("feed, counting", m, answer, CONGURAHA_OK);
+        }
+}
+
+static void expect_refused(void)
+{
+    expected.mode = expected.n = expected.m = expected.rounds = 0;
     expected.decrypting = false;
     memset(expected.keys, 0, sizeof expected.keys);
     memset(expected.reg, 0, sizeof expected.reg);
     expected.units = 0;
     expected.closed = true;
+}
+
+static void refused_counter(size_t mode, size_t n, size_t m, size_t key_length, size_t iv_length, unsigned wanted)
+{
+    fill();
+    lent.decrypting = true;
+    as_lent();
+    uint8_t answer = open_counter_fields(mode, true, n, m, key_length, iv_length);
+    expect_refused();
+    check("open_counter, refused", m, answer, wanted);
+}
+
+static void refused_opening(size_t mode, size_t n, size_t key_length, size_t iv_length, unsigned wanted)
+{
+    refused_counter(mode, n, 128, key_length, iv_length, wanted);
+    refused_counter(mode, n, 0, key_length, iv_length, wanted);
+    fill();
+    lent.decrypting = true;
+    as_lent();
+    uint8_t answer = open_fields(mode, true, n, key_length, iv_length);
+    expect_refused();
     check("open, refused", mode, answer, wanted);
     expected.runs = 0;
     check("feed of a refused session", mode, feed_fields(16, 128, 16, 0), CONGURAHA_NOT_OPENED);
@@ -299,6 +377,12 @@ static void refused_openings(void)
     }
     refused_opening(CONGURAHA_ECB, 0, 16, 16, CONGURAHA_IV_LENGTH);
     refused_opening(CONGURAHA_ECB, 8, 16, 0, CONGURAHA_UNIT_LENGTH);
+    for (size_t mode = 0; mode < 5; mode++) {
+        for (size_t i = 0; i < sizeof NO_COUNTER / sizeof *NO_COUNTER; i++)
+            refused_counter(mode, 128, NO_COUNTER[i], 16, mode ? 16 : 0, CONGURAHA_COUNTER_LENGTH);
+        for (size_t m = 1; mode != CONGURAHA_CTR && m < 128; m++)
+            refused_counter(mode, 128, m, 16, mode ? 16 : 0, CONGURAHA_COUNTER_LENGTH);
+    }
     for (size_t i = 0; i < sizeof NO_MODE / sizeof *NO_MODE; i++) {
         refused_opening(NO_MODE[i], 128, 16, 16, CONGURAHA_NO_MODE);
         refused_opening(NO_MODE[i], 0, 0, 1, CONGURAHA_NO_MODE);
@@ -337,6 +421,9 @@ static void refused_feeds(void)
     lent.n = 129;
     refused_feed(2, 16, 8, 0, CONGURAHA_NOT_OPENED);
     lent.n = 8;
+    lent.m = 127;
+    refused_feed(2, 16, 8, 0, CONGURAHA_NOT_OPENED);
+    lent.m = 128;
     lent.rounds = 11;
     refused_feed(2, 16, 8, 0, CONGURAHA_NOT_OPENED);
     for (size_t i = 0; i < sizeof NO_MODE / sizeof *NO_MODE; i++) {
@@ -345,7 +432,29 @@ static void refused_feeds(void)
     }
 }
 
-/* The largest feed, the last unit of a session, and a feed that closes. */
+/* Of a counter of m bits: no m that an opening gives, and no unit past 2^m. */
+static void refused_counts(void)
+{
+    opened_counter(CONGURAHA_CTR, false, 128, 1);
+    refused_feed(48, 257, 48, 0, CONGURAHA_COUNTER_LIMIT);
+    refused_feed(48, 384, 47, 0, CONGURAHA_ROOM);
+    lent.units = 2;
+    refused_feed(16, 1, 16, 0, CONGURAHA_COUNTER_LIMIT);
+    lent.m = 31;
+    lent.units = 2147483647u;
+    refused_feed(32, 129, 32, 0, CONGURAHA_COUNTER_LIMIT);
+    lent.m = 32;
+    lent.units = CONGURAHA_MAX_UNITS;
+    refused_feed(16, 1, 16, 0, CONGURAHA_UNIT_LIMIT);
+    lent.m = 1;
+    refused_feed(16, 1, 16, 0, CONGURAHA_UNIT_LIMIT);
+    for (size_t i = 0; i < sizeof NO_COUNTER / sizeof *NO_COUNTER; i++) {
+        lent.m = NO_COUNTER[i];
+        refused_feed(16, 128, 16, 0, CONGURAHA_NOT_OPENED);
+    }
+}
+
+/* The largest feed, the last unit of a session and of a counter, and a feed that closes. */
 static void edges(void)
 {
     const size_t most = CONGURAHA_MAX_BITS / 8;
@@ -366,6 +475,21 @@ static void edges(void)
     check("feed, the last unit", 128, answer, CONGURAHA_OK);
     expected.runs = 0;
     check("feed, no unit more", 128, feed_fields(16, 128, 16, 0), CONGURAHA_UNIT_LIMIT);
+
+    opened_counter(CONGURAHA_CTR, false, 128, 31);
+    lent.units = expected.units = 2147483647u;
+    hex(lent.input, TEXT);
+    memcpy(expected.input, lent.input, 32);
+    answer = feed_fields(16, 128, 16, 0);
+    hex(expected.out, TEXTS[CONGURAHA_CTR].cipher);
+    memset(expected.out + 16, KNOWN, 16);
+    hex(expected.reg, "f0f1f2f3f4f5f6f7f8f9fafbfcfdff00");
+    expected.units = 2147483648u;
+    expected.runs = 1;
+    check("feed, the last count", 128, answer, CONGURAHA_OK);
+    expected.runs = 0;
+    check("feed, no count more", 128, feed_fields(16, 128, 16, 0), CONGURAHA_COUNTER_LIMIT);
+    check("feed, of nothing", 0, feed_fields(0, 0, 0, 0), CONGURAHA_OK);
 
     opened(CONGURAHA_CTR, true, 128);
     hex(lent.input, TEXTS[CONGURAHA_CTR].cipher);
@@ -392,7 +516,7 @@ static void pieces(void)
         uint8_t answer = conguraha_session_open(&lent.session, mode, false, 128, lent.key, 16, lent.iv, strlen(TEXTS[mode].iv) / 2);
         memset(&expected.session, 0, sizeof expected.session);
         expected.session.mode = mode;
-        expected.session.n = 128;
+        expected.session.n = expected.session.m = 128;
         expected.session.rounds = 10;
         memcpy(expected.session.keys, lent.keys, sizeof lent.keys);
         memcpy(expected.session.reg, lent.reg, sizeof lent.reg);
@@ -408,12 +532,38 @@ static void pieces(void)
         hex(expected.out + 32, TEXTS[mode].cipher);
         check("session_feed, a copy", mode, answer, CONGURAHA_OK);
     }
+    opened_counter(CONGURAHA_CTR, true, 128, 32);
+    hex(lent.input, TEXTS[CONGURAHA_CTR].cipher);
+    as_lent();
+    uint8_t answer = conguraha_session_open_counter(&lent.session, CONGURAHA_CTR, true, 128, 32, lent.key, 16, lent.iv, 16);
+    memset(&expected.session, 0, sizeof expected.session);
+    expected.session.mode = CONGURAHA_CTR;
+    expected.session.decrypting = true;
+    expected.session.n = 128;
+    expected.session.m = 32;
+    expected.session.rounds = 10;
+    memcpy(expected.session.keys, lent.keys, sizeof lent.keys);
+    memcpy(expected.session.reg, lent.reg, sizeof lent.reg);
+    check("session_open_counter", 32, answer, CONGURAHA_OK);
+    answer = conguraha_session_feed(&lent.session, lent.input, 32, 256, lent.out, 32, 0, &lent.runs);
+    hex(expected.out, TEXT);
+    hex(expected.session.reg, TEXTS[CONGURAHA_CTR].reg);
+    expected.session.units = 2;
+    expected.runs = 2;
+    check("session_feed, counting", 32, answer, CONGURAHA_OK);
+    lent.session.m = expected.session.m = 1;
+    answer = conguraha_session_feed(&lent.session, lent.input, 32, 256, lent.out, 32, 0, &lent.runs);
+    expected.runs = 0;
+    check("session_feed, no count more", 1, answer, CONGURAHA_COUNTER_LIMIT);
     fill();
     as_lent();
-    uint8_t answer = conguraha_session_open(&lent.session, 258, true, 8, lent.key, 16, lent.iv, 16);
+    answer = conguraha_session_open(&lent.session, 258, true, 8, lent.key, 16, lent.iv, 16);
     memset(&expected.session, 0, sizeof expected.session);
     expected.session.closed = true;
     check("session_open, refused", 258, answer, CONGURAHA_NO_MODE);
+    memset(&lent.session, KNOWN, sizeof lent.session);
+    answer = conguraha_session_open_counter(&lent.session, CONGURAHA_CTR, true, 128, 129, lent.key, 16, lent.iv, 16);
+    check("session_open_counter, refused", 129, answer, CONGURAHA_COUNTER_LENGTH);
     memset(&lent.session, 0, sizeof lent.session);
     as_lent();
     answer = conguraha_session_feed(&lent.session, lent.input, 16, 128, lent.out, 16, 0, &lent.runs);
@@ -427,8 +577,10 @@ int main(void)
     blocks();
     chains();
     texts();
+    counters();
     refused_openings();
     refused_feeds();
+    refused_counts();
     edges();
     pieces();
     if (failures == 0)

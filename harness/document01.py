@@ -116,17 +116,30 @@ def length_ok(mode, n):
     return 1 <= n <= 128 if mode == 'CFB' else n == 128
 
 
-REFUSED = dict(mode='ECB', way='E', n=0, key=b'', r=bytes(16), units=0, closed=1)
+# request 05: the bits of the block that count in CTR
+def counter_ok(mode, m):
+    return 1 <= m <= 128 if mode == 'CTR' else m == 128
 
 
-def opening(mode, way, n, key, iv):
+REFUSED = dict(mode='ECB', way='E', n=0, m=0, key=b'', r=bytes(16), units=0, closed=1)
+
+
+def opening(mode, way, n, key, iv, m=128):
     if len(key) not in (16, 24, 32):
         return 1, REFUSED
     if len(iv) != (0 if mode == 'ECB' else 16):
         return 2, REFUSED
     if not length_ok(mode, n):
         return 3, REFUSED
-    return 0, dict(mode=mode, way=way, n=n, key=key, r=iv or bytes(16), units=0, closed=0)
+    if not counter_ok(mode, m):
+        return 14, REFUSED
+    return 0, dict(mode=mode, way=way, n=n, m=m, key=key, r=iv or bytes(16), units=0, closed=0)
+
+
+# the counter block behind r: the upper bits stay, the lowest m are a number modulo 2^m
+def counted(r, m):
+    upper, lower = divmod(int.from_bytes(r, 'big'), 2 ** m)
+    return (upper * 2 ** m + (lower + 1) % 2 ** m).to_bytes(16, 'big')
 
 
 # a unit of bits: what it becomes, and R after it
@@ -144,7 +157,7 @@ def unit(s, r, u):
         return xor(u, bits(r)), r
     out = xor(u, bits(encrypt(key, r)))
     if mode == 'CTR':
-        return out, ((int.from_bytes(r, 'big') + 1) % 2 ** 128).to_bytes(16, 'big')
+        return out, counted(r, s['m'])
     return out, pack((bits(r) + (out if encrypting else u))[-128:])
 
 
@@ -165,8 +178,8 @@ def part_unit(mode, n, count):
 
 
 def feed_number(s, length, count, size, place):
-    n = s['n']
-    if len(s['key']) not in (16, 24, 32) or not length_ok(s['mode'], n):
+    n, m = s['n'], s['m']
+    if len(s['key']) not in (16, 24, 32) or not length_ok(s['mode'], n) or not counter_ok(s['mode'], m):
         return 4
     if s['closed']:
         return 5
@@ -176,7 +189,10 @@ def feed_number(s, length, count, size, place):
         return 7
     if not room(count, size, place):
         return 8
-    return 9 if s['units'] + units_of(n, count) > MAX_UNITS else 0
+    units = s['units'] + units_of(n, count)
+    if units > MAX_UNITS:
+        return 9
+    return 15 if units > 2 ** m else 0
 
 
 # the number, the session, the output and the runs of the block cipher

@@ -15,8 +15,11 @@ def put_bits(bs, at, x):
     return pack_to(k, bits(bs)[:at] + x) + bs[k:]
 
 
-def increment(bs):
-    return list(((int.from_bytes(bytes(bs), "big") + 1) % 2**128).to_bytes(16, "big"))
+def increment(bs, m):
+    """SP 800-38A, appendix B.1: the lowest m bits, and all 128 where m is more than that."""
+    x = int.from_bytes(bytes(bs), "big")
+    low = 2 ** min(m, 128) - 1
+    return list((x & ~low | (x + 1) & low).to_bytes(16, "big"))
 
 
 def show(bs):
@@ -36,6 +39,7 @@ for n in [0, 1, 3, 7, 8, 9, 127, 128, 200]:
         for at in range(10):
             show(put_bits([255] * 19, at, bits(second)[:n]))
 show([a ^ b for a, b in zip(first, second)])
-show(increment([255] * 16))
-show(increment([7] + [255] * 15))
-show(increment([7] + [255] * 14 + [7]))
+for m in [0, 1, 3, 7, 8, 9, 16, 64, 119, 120, 121, 127, 128, 200]:
+    show(increment([255] * 16, m))
+    show(increment([7] + [255] * 15, m))
+    show(increment([7] + [255] * 14 + [7], m))

@@ -116,11 +116,11 @@ block('all four', b'kkk', b'vvv', TEXT, 3, 5)
 
 # ---- lines: alike
 
-SESSION = dict(mode='CFB', direction='D', n=8, rounds=10, keys=b'\x77' * 240, register=b'\x99' * 16, units=5, closed=False)
+SESSION = dict(mode='CFB', direction='D', n=8, m=128, rounds=10, keys=b'\x77' * 240, register=b'\x99' * 16, units=5, closed=False)
 
 
 def alike(a, b):
-    same = all(a[field] == b[field] for field in ('mode', 'direction', 'n', 'rounds', 'register'))
+    same = all(a[field] == b[field] for field in ('mode', 'direction', 'n', 'm', 'rounds', 'register'))
     used = min(240, 16 * (a['rounds'] + 1))
     return 'yes' if same and a['keys'][:used] == b['keys'][:used] else 'no'
 
@@ -150,10 +150,17 @@ compared('n', SESSION, n=9)
 compared('n, by 2^32', SESSION, n=2 ** 32 + 8)
 compared('10 and 11 rounds', SESSION, rounds=11)
 compared('14 and 15 rounds', {**SESSION, 'rounds': 14}, rounds=15)
+compared('m', SESSION, m=127)
+compared('m, by 2^32', SESSION, m=2 ** 32 + 128)
+COUNTING = {**SESSION, 'mode': 'CTR', 'direction': 'E', 'n': 128}
+compared('CTR, m 1 and 2', {**COUNTING, 'm': 1}, m=2)
+compared('CTR, m 127 and 128', {**COUNTING, 'm': 127}, m=128)
+compared('CTR, m 128 and none', COUNTING)
 MODES = ('ECB', 'CBC', 'CFB', 'OFB', 'CTR')
 for i, mode in enumerate(MODES):
     after = MODES[(i + 1) % 5]
     compared(f'{mode}, {after}', {**SESSION, 'mode': mode, 'direction': 'E', 'n': 128}, mode=after)
-REFUSED = dict(mode='ECB', direction='E', n=0, rounds=0, keys=bytes(240), register=bytes(16), units=0, closed=True)
+REFUSED = dict(mode='ECB', direction='E', n=0, m=0, rounds=0, keys=bytes(240), register=bytes(16), units=0, closed=True)
 compared('refused', REFUSED)
 compared('refused, zeros', REFUSED, units=7, closed=False)
+compared('refused, m 128', REFUSED, units=7, closed=False, m=128)

@@ -61,9 +61,12 @@ class Replay:
         self.session = self.kept = REFUSED
 
     def open(self, mode, n, way, key, iv):
+        return self.open_counter(mode, n, '128', way, key, iv)
+
+    def open_counter(self, mode, n, m, way, key, iv):
         mode = read_one_of(mode, MODES)
         way = read_one_of(way, ('E', 'D'))
-        number, self.session = opening(mode, way, read_number(n), read_bytes(key, LONGEST), read_bytes(iv, LONGEST))
+        number, self.session = opening(mode, way, read_number(n), read_bytes(key, LONGEST), read_bytes(iv, LONGEST), read_number(m))
         return str(number)
 
     def feed(self, count, size, place, fill, data):
@@ -106,18 +109,18 @@ class Replay:
 
     # a key gives its round keys, and different keys of one length give different ones
     def alike(self):
-        same = all(self.session[k] == self.kept[k] for k in ('mode', 'way', 'n', 'key', 'r'))
+        same = all(self.session[k] == self.kept[k] for k in ('mode', 'way', 'n', 'm', 'key', 'r'))
         return 'yes' if same else 'no'
 
-    COMMANDS = {'open': 5, 'feed': 5, 'forecast': 3, 'pad': 5, 'unpad': 2, 'neighbour': 3, 'block': 7, 'steal': 8, 'keep': 0,
-                'alike': 0}
+    COMMANDS = {'open': 5, 'open-counter': 6, 'feed': 5, 'forecast': 3, 'pad': 5, 'unpad': 2, 'neighbour': 3, 'block': 7,
+                'steal': 8, 'keep': 0, 'alike': 0}
 
     def line(self, line):
         name, *words = line.split(' ')
         if len(line) > LINE or self.COMMANDS.get(name) != len(words):
             return '?'
         try:
-            return getattr(self, name)(*words)
+            return getattr(self, name.replace('-', '_'))(*words)
         except Bad:
             return '?'
 
@@ -161,6 +164,25 @@ def question_lines():
     yield from ('feed 17 2 0 00 6bc1', 'feed 16 2 1 00 6bc1', 'feed 16 2 3 00 6bc1', 'feed 0 2 2 00 6bc1', 'feed 0 2 3 00 -')
     yield from ('feed 18446744073709551615 2 18446744073709551615 00 6bc1', f'feed {MAX_BITS + 8} 2 0 00 6bc1')
     yield from ('feed 16 2 18446744073709551615 00 6bc1', f'open CTR 128 E {KEY} {IV}', 'feed 3 1 0 ff ff', 'feed 0 1 0 ff ff')
+
+
+# question 14 after 1, 2 and 3, and at the edges of m; all values of a counter, and one unit more; sessions that differ in m alone
+def counter_lines():
+    yield from (f'open-counter CTR 0 0 E {KEY}00 00', f'open-counter CTR 0 0 E {KEY} 00', f'open-counter CTR 0 0 E {KEY} {IV}')
+    for mode in MODES:
+        for m in (0, 1, 127, 128, 129, 200, 2 ** 64 - 1):
+            yield f'open-counter {mode} 128 {m} E {KEY} {"-" if mode == "ECB" else IV}'
+            yield 'feed 128 16 0 ee ' + TEXT
+    for m, blocks in ((1, (1, 2, 1, 1)), (2, (3, 2, 1, 1)), (3, (2, 2, 2, 3, 2, 1)), (5, (31, 2, 1, 1))):
+        for way in 'ED':
+            yield f'open-counter CTR 128 {m} {way} {KEY24} {"f0" * 15}af'
+            for count in blocks:
+                yield f'feed {128 * count} {16 * count} 0 ee {(TEXT * 16)[:32 * count]}'
+            yield 'feed 0 0 0 ee -'
+    yield from (f'open-counter CTR 128 1 D {KEY} {IV}', f'feed 128 16 0 ee {TEXT}', f'feed 129 17 0 ee {TEXT}', 'feed 8 1 0 ee 6b')
+    yield from ('feed 0 0 0 ee -', f'open-counter CTR 128 9 D {KEY} {IV[:28]}01ff', f'feed 256 32 0 ee {TEXT}')
+    yield from (f'open CTR 128 E {KEY} {IV}', 'keep', f'open-counter CTR 128 128 E {KEY} {IV}', 'alike')
+    yield from (f'open-counter CTR 128 127 E {KEY} {IV}', 'alike', 'keep', f'open-counter CTR 128 0127 E {KEY} {IV}', 'alike')
 
 
 # every mode at the edges of n and of the bits; n = 3 and 9 bits; the largest numbers
@@ -210,15 +232,17 @@ def steal_lines():
 
 # a good line, and it with a word left out, added, doubled by a space or changed
 def bad_lines():
-    good = (f'open CFB 8 E {KEY} {IV}', f'feed 8 2 1 ee {IV}', 'forecast CFB 3 9', f'pad 8 16 0 ee {IV}', f'unpad 128 {IV}',
-            f'neighbour {IV} {IV} 0', f'block {KEY} {IV} {IV} 0 16 0 ee', f'steal E {KEY} {IV} 136 18 1 ee {TEXT}', 'keep', 'alike')
+    good = (f'open-counter CTR 128 8 E {KEY} {IV}', f'open CFB 8 E {KEY} {IV}', f'feed 8 2 1 ee {IV}', 'forecast CFB 3 9',
+            f'pad 8 16 0 ee {IV}', f'unpad 128 {IV}', f'neighbour {IV} {IV} 0', f'block {KEY} {IV} {IV} 0 16 0 ee',
+            f'steal E {KEY} {IV} 136 18 1 ee {TEXT}', 'keep', 'alike')
     numbers = ('', '-', '-1', '+1', '0x8', '1a', '18446744073709551616', '99999999999999999999', '1.0', '8\r', '8\t')
     data = ('', '0', '000', '0A', 'AB', '0g', '--', '-00', '0-', '0x', '/0', ':0', '`0', 'g0', '\x80\x80', '\0\0')
-    kinds = {'open': 'mnwbb', 'feed': 'nnnfb', 'forecast': 'mnn', 'pad': 'nnnfb', 'unpad': 'nb', 'neighbour': 'bbn',
-             'block': 'bbbnnnf', 'steal': 'wbbnnnfb'}
+    kinds = {'open': 'mnwbb', 'open-counter': 'mnnwbb', 'feed': 'nnnfb', 'forecast': 'mnn', 'pad': 'nnnfb', 'unpad': 'nb',
+             'neighbour': 'bbn', 'block': 'bbbnnnf', 'steal': 'wbbnnnfb'}
     wrong = {'m': ('', 'ecb', 'CBCX', 'CB', 'Ecb', '-'), 'n': numbers, 'w': ('', 'e', 'd', 'ED', 'F', '-'),
              'b': data, 'f': data + ('-', '000000', 'e')}
-    yield from ('', ' ', '  ', '?', 'close', 'Open', 'opens', 'kee', 'keep\0', '\r', '\xff')
+    yield from ('', ' ', '  ', '?', 'close', 'Open', 'opens', 'kee', 'keep\0', '\r', '\xff', f'open_counter CTR 128 8 E {KEY} {IV}',
+                f'open-counters CTR 128 8 E {KEY} {IV}')
     for line in good:
         words = line.split(' ')
         yield line
@@ -273,8 +297,8 @@ def random_lines():
 
 def main():
     if sys.argv[1:] == ['lines']:
-        for lines in (first_lines, mode_lines, question_lines, forecast_lines, text_lines, steal_lines, bad_lines, random_lines,
-                      long_lines):
+        for lines in (first_lines, mode_lines, question_lines, counter_lines, forecast_lines, text_lines, steal_lines, bad_lines,
+                      random_lines, long_lines):
             for line in lines():
                 sys.stdout.buffer.write(line.encode('latin-1') + b'\n')
         # the last line has no line feed

@@ -12,17 +12,23 @@ use std::time::Instant;
 const CHAIN: usize = 2_000;
 const TEXT: usize = 16 * 1024;
 
-// A mode's name, its number and n for Rattle, and its name for the others.
-type Mode = (&'static str, usize, usize, &'static str);
+// A mode's name, its number, n and m for Rattle, and its name for the others.
+type Mode = (&'static str, usize, usize, usize, &'static str);
 
 const MODES: [Mode; 7] = [
-    ("ECB", 0, 128, "ecb"),
-    ("CBC", 1, 128, "cbc"),
-    ("CFB-1", 2, 1, "cfb1"),
-    ("CFB-8", 2, 8, "cfb8"),
-    ("CFB-128", 2, 128, "cfb"),
-    ("OFB", 3, 128, "ofb"),
-    ("CTR", 4, 128, "ctr"),
+    ("ECB", 0, 128, 128, "ecb"),
+    ("CBC", 1, 128, 128, "cbc"),
+    ("CFB-1", 2, 1, 128, "cfb1"),
+    ("CFB-8", 2, 8, 128, "cfb8"),
+    ("CFB-128", 2, 128, 128, "cfb"),
+    ("OFB", 3, 128, 128, "ofb"),
+    ("CTR", 4, 128, 128, "ctr"),
+];
+
+// Counters of fewer bits. OpenSSL has none, libtomcrypt those of whole bytes.
+const COUNTERS: [Mode; 2] = [
+    ("CTR, m = 32,", 4, 128, 32, "ctr"),
+    ("CTR, m = 13,", 4, 128, 13, "ctr"),
 ];
 
 fn main() {
@@ -31,7 +37,7 @@ fn main() {
             block(length, direction);
         }
     }
-    for mode in MODES {
+    for mode in MODES.into_iter().chain(COUNTERS) {
         for direction in [Direction::Encrypt, Direction::Decrypt] {
             let name = format!("{} {}", mode.0, verb(direction));
             speed(&name, feeds(mode, direction, TEXT));
@@ -64,7 +70,7 @@ fn block(length: usize, direction: Direction) {
     let key: Vec<u8> = (0..length as u8).collect();
     let decrypting = direction == Direction::Decrypt;
     let mut openssl = Cipher::new("ecb", &key, &[], direction);
-    let mut tomcrypt = tomcrypt::Cipher::new("ecb", &key, &[], direction).unwrap();
+    let mut tomcrypt = tomcrypt::Cipher::new("ecb", 128, &key, &[], direction).unwrap();
     let mut blocks = [[0; 16]; 3];
     let [ours, theirs, toms] = &mut blocks;
     let best = fastest(
@@ -107,8 +113,8 @@ fn feeds_of_a_block(direction: Direction) {
 }
 
 // The seconds of 16 KiB in feeds of `size` bytes under a key of 16 bytes. Each side keeps its session, and the texts are
-// compared.
-fn feeds((name, mode, n, theirs): Mode, direction: Direction, size: usize) -> [Option<f64>; 3] {
+// compared. Rattle's count of units is set back before each turn, since 400 turns are more units than a counter of 13 bits takes.
+fn feeds((name, mode, n, m, theirs): Mode, direction: Direction, size: usize) -> [Option<f64>; 3] {
     let key: Vec<u8> = (0..16).collect();
     let iv: Vec<u8> = if mode == 0 {
         vec![]
@@ -116,12 +122,12 @@ fn feeds((name, mode, n, theirs): Mode, direction: Direction, size: usize) -> [O
         (100..116).collect()
     };
     let input: Vec<u8> = (0..TEXT).map(|i| (i * i >> 3) as u8).collect();
-    let (number, mut rattle) =
-        rattle::Session::open(mode, direction == Direction::Decrypt, n, &key, &iv);
+    let decrypting = direction == Direction::Decrypt;
+    let (number, mut rattle) = rattle::Session::open_counter(mode, decrypting, n, m, &key, &iv);
     assert!(number == 0);
-    let mut openssl = Cipher::new(theirs, &key, &iv, direction);
-    let mut tomcrypt = tomcrypt::Cipher::new(theirs, &key, &iv, direction);
-    let has_tomcrypt = tomcrypt.is_some();
+    let mut openssl = (m == 128).then(|| Cipher::new(theirs, &key, &iv, direction));
+    let mut tomcrypt = tomcrypt::Cipher::new(theirs, m, &key, &iv, direction);
+    let (has_openssl, has_tomcrypt) = (openssl.is_some(), tomcrypt.is_some());
     let mut texts = [vec![0; TEXT], vec![0; TEXT], vec![0; TEXT]];
     let [ours, evp, toms] = &mut texts;
     let turns = if n < 128 { 30 } else { 400 };
@@ -129,13 +135,16 @@ fn feeds((name, mode, n, theirs): Mode, direction: Direction, size: usize) -> [O
         turns,
         [
             &mut || {
+                rattle.units = 0;
                 for at in (0..TEXT).step_by(size) {
                     assert!(rattle.feed(&input[at..at + size], 8 * size, ours, at).0 == 0);
                 }
             },
             &mut || {
-                for (input, out) in input.chunks(size).zip(evp.chunks_mut(size)) {
-                    openssl.update(input, out);
+                if let Some(cipher) = &mut openssl {
+                    for (input, out) in input.chunks(size).zip(evp.chunks_mut(size)) {
+                        cipher.update(input, out);
+                    }
                 }
             },
             &mut || {
@@ -147,12 +156,19 @@ fn feeds((name, mode, n, theirs): Mode, direction: Direction, size: usize) -> [O
             },
         ],
     );
-    assert!(texts[0] == texts[1], "Rattle and OpenSSL differ in {name}");
+    assert!(
+        !has_openssl || texts[0] == texts[1],
+        "Rattle and OpenSSL differ in {name}"
+    );
     assert!(
         !has_tomcrypt || texts[0] == texts[2],
         "Rattle and libtomcrypt differ in {name}"
     );
-    [Some(best[0]), Some(best[1]), has_tomcrypt.then(|| best[2])]
+    [
+        Some(best[0]),
+        has_openssl.then(|| best[1]),
+        has_tomcrypt.then(|| best[2]),
+    ]
 }
 
 // The seconds of the fastest turn of each of three jobs. The turns alternate, so that all meet the same machine.

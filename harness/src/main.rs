@@ -2,6 +2,7 @@
 // its `run` hands its tests to the report.
 mod aes;
 mod cost;
+mod counters;
 mod modeline;
 mod openssl;
 mod process;
@@ -14,12 +15,14 @@ mod scenario;
 mod sessions;
 mod stack;
 mod stealing;
+mod tomcrypt;
 mod unpad;
 
 fn main() {
     let mut report = report::Report::new();
     aes::run(&mut report);
     sessions::run(&mut report);
+    counters::run(&mut report);
     scenario::run(&mut report);
     stack::run(&mut report);
     replay::run(&mut report);

@@ -38,6 +38,26 @@ extern "C" {
         held_mode: *mut usize,
         held_decrypting: *mut bool,
         held_n: *mut usize,
+        held_m: *mut usize,
+        rounds: *mut usize,
+        keys: *mut u8,
+        register: *mut u8,
+        units: *mut u32,
+        closed: *mut bool,
+    ) -> u8;
+    fn conguraha_open_counter(
+        mode: usize,
+        decrypting: bool,
+        n: usize,
+        m: usize,
+        key: *const u8,
+        key_length: usize,
+        iv: *const u8,
+        iv_length: usize,
+        held_mode: *mut usize,
+        held_decrypting: *mut bool,
+        held_n: *mut usize,
+        held_m: *mut usize,
         rounds: *mut usize,
         keys: *mut u8,
         register: *mut u8,
@@ -48,6 +68,7 @@ extern "C" {
         mode: usize,
         decrypting: bool,
         n: usize,
+        m: usize,
         rounds: usize,
         keys: *const u8,
         register: *mut u8,
@@ -116,6 +137,7 @@ pub struct Session {
     pub mode: usize,
     pub decrypting: bool,
     pub n: usize,
+    pub m: usize,
     pub rounds: usize,
     pub keys: [u8; 240],
     pub register: [u8; 16],
@@ -124,18 +146,24 @@ pub struct Session {
 }
 
 impl Session {
-    // The number, and what the opening gave. The mode is 0 for ECB, then CBC, CFB, OFB and CTR.
-    pub fn open(mode: usize, decrypting: bool, n: usize, key: &[u8], iv: &[u8]) -> (u8, Session) {
-        let mut session = Session {
+    // What is lent to an opening: no field holds what it will write.
+    fn unwritten(decrypting: bool) -> Session {
+        Session {
             mode: usize::MAX,
             decrypting: !decrypting,
             n: usize::MAX,
+            m: usize::MAX,
             rounds: usize::MAX,
             keys: [FILL; 240],
             register: [FILL; 16],
             units: u32::MAX,
             closed: false,
-        };
+        }
+    }
+
+    // The number, and what the opening gave. The mode is 0 for ECB, then CBC, CFB, OFB and CTR.
+    pub fn open(mode: usize, decrypting: bool, n: usize, key: &[u8], iv: &[u8]) -> (u8, Session) {
+        let mut session = Session::unwritten(decrypting);
         let number = unsafe {
             conguraha_open(
                 mode,
@@ -148,6 +176,41 @@ impl Session {
                 &mut session.mode,
                 &mut session.decrypting,
                 &mut session.n,
+                &mut session.m,
+                &mut session.rounds,
+                session.keys.as_mut_ptr(),
+                session.register.as_mut_ptr(),
+                &mut session.units,
+                &mut session.closed,
+            )
+        };
+        (number, session)
+    }
+
+    // The same with a counter of m bits.
+    pub fn open_counter(
+        mode: usize,
+        decrypting: bool,
+        n: usize,
+        m: usize,
+        key: &[u8],
+        iv: &[u8],
+    ) -> (u8, Session) {
+        let mut session = Session::unwritten(decrypting);
+        let number = unsafe {
+            conguraha_open_counter(
+                mode,
+                decrypting,
+                n,
+                m,
+                key.as_ptr(),
+                key.len(),
+                iv.as_ptr(),
+                iv.len(),
+                &mut session.mode,
+                &mut session.decrypting,
+                &mut session.n,
+                &mut session.m,
                 &mut session.rounds,
                 session.keys.as_mut_ptr(),
                 session.register.as_mut_ptr(),
@@ -166,6 +229,7 @@ impl Session {
                 self.mode,
                 self.decrypting,
                 self.n,
+                self.m,
                 self.rounds,
                 self.keys.as_ptr(),
                 self.register.as_mut_ptr(),

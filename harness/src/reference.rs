@@ -31,6 +31,15 @@ impl Mode {
         }
     }
 
+    // Question 14.
+    pub fn takes_counter(self, m: usize) -> bool {
+        if self == Mode::Ctr {
+            (1..=128).contains(&m)
+        } else {
+            m == 128
+        }
+    }
+
     // Question 2.
     pub fn takes_iv(self, iv: &[u8]) -> bool {
         iv.len() == if self == Mode::Ecb { 0 } else { 16 }
@@ -39,6 +48,14 @@ impl Mode {
     fn wants_whole_units(self) -> bool {
         matches!(self, Mode::Ecb | Mode::Cbc | Mode::Cfb)
     }
+}
+
+// The block whose lowest m bits, as a number, are one higher modulo 2^m, and whose other bits are the same (SP 800-38A, appendix
+// B.1).
+pub fn incremented(block: [u8; 16], m: usize) -> [u8; 16] {
+    let number = u128::from_be_bytes(block);
+    let counter = u128::MAX >> (128 - m);
+    (number & !counter | number.wrapping_add(1) & counter).to_be_bytes()
 }
 
 // How many parts of a size cover a length, the last one perhaps shorter.
@@ -72,6 +89,7 @@ pub struct Session {
     pub mode: Mode,
     pub direction: Direction,
     pub n: usize,
+    pub m: usize,
     pub key: Option<Key>,
     pub register: [u8; 16],
     pub units: u32,
@@ -86,6 +104,7 @@ impl Session {
             mode: Mode::Ecb,
             direction: Direction::Encrypt,
             n: 0,
+            m: 0,
             key: None,
             register: [0; 16],
             units: 0,
@@ -101,12 +120,25 @@ impl Session {
         key: &[u8],
         iv: &[u8],
     ) -> (u8, Session) {
+        Session::open_counter(mode, direction, n, 128, key, iv)
+    }
+
+    pub fn open_counter(
+        mode: Mode,
+        direction: Direction,
+        n: usize,
+        m: usize,
+        key: &[u8],
+        iv: &[u8],
+    ) -> (u8, Session) {
         let number = if ![16, 24, 32].contains(&key.len()) {
             1
         } else if !mode.takes_iv(iv) {
             2
         } else if !mode.takes(n) {
             3
+        } else if !mode.takes_counter(m) {
+            14
         } else {
             0
         };
@@ -117,6 +149,7 @@ impl Session {
             mode,
             direction,
             n,
+            m,
             key: Some(Key::new(key)),
             register: iv.try_into().unwrap_or([0; 16]),
             units: 0,
@@ -131,7 +164,10 @@ impl Session {
     }
 
     fn feed_number(&self, input: &[u8], count: usize, size: usize, place: usize) -> u8 {
-        if ![10, 12, 14].contains(&self.rounds()) || !self.mode.takes(self.n) {
+        let opened = [10, 12, 14].contains(&self.rounds())
+            && self.mode.takes(self.n)
+            && self.mode.takes_counter(self.m);
+        if !opened {
             return 4;
         }
         if self.closed {
@@ -146,8 +182,13 @@ impl Session {
         if place > size || parts(count, 8) > size - place {
             return 8;
         }
-        if self.units as u64 + parts(count, self.n) as u64 > MAX_UNITS as u64 {
+        let units = self.units as u128 + parts(count, self.n) as u128;
+        if units > MAX_UNITS as u128 {
             return 9;
+        }
+        // 2^128, which no units reach, is no u128
+        if self.m < 128 && units > 1 << self.m {
+            return 15;
         }
         0
     }
@@ -215,7 +256,7 @@ impl Session {
             }
             Mode::Ctr => {
                 let text = sum(unit, &bits(&self.enc(&register)));
-                self.register = u128::from_be_bytes(register).wrapping_add(1).to_be_bytes();
+                self.register = incremented(register, self.m);
                 text
             }
         }
@@ -229,6 +270,7 @@ impl Session {
         self.mode == other.mode
             && self.direction == other.direction
             && self.n == other.n
+            && self.m == other.m
             && self.rounds() == other.rounds()
             && keys(self) == keys(other)
             && self.register == other.register

@@ -39,6 +39,12 @@ pub fn run(report: &mut Report) {
         );
     }
     report.test(
+        &format!(
+            "replay: {LISTS} lists of feeds under counters of m bits, refused ones among them"
+        ),
+        counters,
+    );
+    report.test(
         "replay: pad, unpad, neighbour and block as the reference",
         other_calls,
     );
@@ -96,6 +102,27 @@ impl Script {
         self.session = session;
         let line = format!(
             "open {} {n} {} {} {}",
+            mode.name(),
+            letter(direction),
+            word(key),
+            word(iv)
+        );
+        self.line(line, number.to_string());
+    }
+
+    fn open_counter(
+        &mut self,
+        mode: Mode,
+        direction: Direction,
+        n: usize,
+        m: usize,
+        key: &[u8],
+        iv: &[u8],
+    ) {
+        let (number, session) = Session::open_counter(mode, direction, n, m, key, iv);
+        self.session = session;
+        let line = format!(
+            "open-counter {} {n} {m} {} {} {}",
             mode.name(),
             letter(direction),
             word(key),
@@ -176,6 +203,18 @@ fn any_n(rng: &mut Rng, mode: Mode) -> usize {
     }
 }
 
+// The bits of a counter: few, so that 2^m units are soon done, and the edges of bytes and words are frequent.
+fn any_m(rng: &mut Rng, mode: Mode) -> usize {
+    match mode {
+        Mode::Ctr => match rng.below(3) {
+            0 => 1 + rng.below(4),
+            1 => *rng.pick(&[7, 8, 9, 31, 32, 33, 63, 64, 65, 127, 128]),
+            _ => 1 + rng.below(128),
+        },
+        _ => 128,
+    }
+}
+
 fn iv_of(rng: &mut Rng, mode: Mode) -> Vec<u8> {
     rng.bytes(if mode == Mode::Ecb { 0 } else { 16 })
 }
@@ -194,6 +233,39 @@ fn feeds(rng: &mut Rng) -> Outcome {
         }
         let direction = any_direction(rng);
         script.open(mode, direction, n, &key, &iv);
+        for _ in 0..3 + rng.below(9) {
+            let feed = Feed::any(rng, n);
+            script.feed(&feed);
+        }
+    }
+    script.run().map(|_| ())
+}
+
+fn counters(rng: &mut Rng) -> Outcome {
+    let mut script = Script::new();
+    for _ in 0..LISTS {
+        let mode = match rng.below(3) {
+            0 => *rng.pick(&MODES),
+            _ => Mode::Ctr,
+        };
+        let (mut n, mut m) = (any_n(rng, mode), any_m(rng, mode));
+        let (mut key, mut iv) = (any_key(rng), iv_of(rng, mode));
+        if rng.below(2) == 0 {
+            // the counter's last bytes are about to wrap
+            let from = iv.len() - rng.below(iv.len() + 1);
+            iv[from..].fill(0xff);
+        }
+        match rng.below(20) {
+            0 => n = rng.below(1000),
+            1 => key.truncate(rng.below(16)),
+            2 => iv.truncate(rng.below(16)),
+            3 => m = 0,
+            4 => m = 1 + rng.below(1000),
+            5 => m = rng.number() as usize,
+            _ => {}
+        }
+        let direction = any_direction(rng);
+        script.open_counter(mode, direction, n, m, &key, &iv);
         for _ in 0..3 + rng.below(9) {
             let feed = Feed::any(rng, n);
             script.feed(&feed);
@@ -511,22 +583,32 @@ fn comparisons(rng: &mut Rng) -> Outcome {
         let mode = *rng.pick(&MODES);
         let n = any_n(rng, mode);
         let (key, iv) = (any_key(rng), iv_of(rng, mode));
+        let m = any_m(rng, mode);
         let direction = any_direction(rng);
-        script.open(mode, direction, n, &key, &iv);
+        script.open_counter(mode, direction, n, m, &key, &iv);
         script.kept = script.session.clone();
         script.line("keep".to_string(), "kept".to_string());
         alike(&mut script);
-        let (mut other_key, mut other_iv, mut other_n) = (key.clone(), iv.clone(), n);
+        let (mut other_key, mut other_iv) = (key.clone(), iv.clone());
+        let (mut other_n, mut other_m) = (n, m);
         let mut other_direction = direction;
-        match rng.below(6) {
+        match rng.below(7) {
             0 => other_key[rng.below(16)] ^= 1,
             1 if mode != Mode::Ecb => other_iv[rng.below(16)] ^= 1,
             2 => other_direction = any_direction(rng),
             3 => other_n = any_n(rng, mode),
-            4 => other_key.truncate(5),
+            4 => other_m = any_m(rng, mode),
+            5 => other_key.truncate(5),
             _ => {}
         }
-        script.open(mode, other_direction, other_n, &other_key, &other_iv);
+        script.open_counter(
+            mode,
+            other_direction,
+            other_n,
+            other_m,
+            &other_key,
+            &other_iv,
+        );
         alike(&mut script);
         let feed = Feed::any(rng, n);
         script.feed(&feed);
@@ -554,6 +636,27 @@ const BAD_LINES: &[&str] = &[
     "open CTR 128 E 0G -",
     "open CTR 128 E AB -",
     "open CTR 18446744073709551616 E - -",
+    "open-counter",
+    "open-counter CTR 128 E - -",
+    "open-counter CTR 128 32 E -",
+    "open-counter CTR 128 32 E - - ",
+    "open-counter CTR 128 32 E - - -",
+    "open-counter CTR 128  32 E - -",
+    "open-counter  CTR 128 32 E - -",
+    "open-counter ctr 128 32 E - -",
+    "open-counter CTR 128 x E - -",
+    "open-counter CTR 128 -1 E - -",
+    "open-counter CTR 128 - E - -",
+    "open-counter CTR x 32 E - -",
+    "open-counter CTR 128 32 F - -",
+    "open-counter CTR 128 32 E 0 -",
+    "open-counter CTR 128 32 E - AB",
+    "open-counter CTR 128 18446744073709551616 E - -",
+    "open-counte CTR 128 32 E - -",
+    "open-counters CTR 128 32 E - -",
+    "open_counter CTR 128 32 E - -",
+    "open counter CTR 128 32 E - -",
+    "open CTR 128 32 E - -",
     "feed 8 1 0 00",
     "feed 8 1 0 00 00 00",
     "feed 8 1 0 0 00",

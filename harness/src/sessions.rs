@@ -6,7 +6,7 @@ use crate::report::{equal, hex, Outcome, Report};
 use crate::rng::Rng;
 
 pub const KEY_LENGTHS: [usize; 3] = [16, 24, 32];
-const DIRECTIONS: [(Direction, &str); 2] = [
+pub const DIRECTIONS: [(Direction, &str); 2] = [
     (Direction::Encrypt, "encrypts"),
     (Direction::Decrypt, "decrypts"),
 ];
@@ -75,7 +75,7 @@ fn open(
 }
 
 // Feeds a text of whole bytes in parts that end at a unit and a byte, and gives what was written.
-fn fed_in_parts(
+pub fn fed_in_parts(
     rng: &mut Rng,
     session: &mut rattle::Session,
     text: &[u8],
@@ -139,7 +139,7 @@ fn counter(rng: &mut Rng) -> Outcome {
 }
 
 // A call's numbers, every field of the session, and the output.
-fn same<Numbers: PartialEq + std::fmt::Debug>(
+pub fn same<Numbers: PartialEq + std::fmt::Debug>(
     input: impl Fn() -> String,
     expected: (Numbers, &reference::Session, &[u8]),
     came: (Numbers, &rattle::Session, &[u8]),
@@ -149,8 +149,8 @@ fn same<Numbers: PartialEq + std::fmt::Debug>(
     let decrypting = session.direction == Direction::Decrypt;
     equal(
         &input,
-        (session.mode as usize, decrypting, session.n),
-        (came.1.mode, came.1.decrypting, came.1.n),
+        (session.mode as usize, decrypting, session.n, session.m),
+        (came.1.mode, came.1.decrypting, came.1.n, came.1.m),
     )?;
     let keys = session.key.as_ref().map_or([0; 240], |key| key.keys);
     equal(
@@ -282,12 +282,17 @@ fn no_mode(rng: &mut Rng) -> Outcome {
     for mode in (5..=255).chain(large) {
         let key = rng.bytes(16);
         let iv = rng.bytes(16);
-        let (number, session) = rattle::Session::open(mode, true, 128, &key, &iv);
-        same(
-            || format!("mode {mode}"),
-            (12, &reference::Session::refused(), &[]),
-            (number, &session, &[]),
-        )?;
+        let refused = reference::Session::refused();
+        for (number, session) in [
+            rattle::Session::open(mode, true, 128, &key, &iv),
+            rattle::Session::open_counter(mode, true, 128, mode % 200, &key, &iv),
+        ] {
+            same(
+                || format!("mode {mode}"),
+                (12, &refused, &[]),
+                (number, &session, &[]),
+            )?;
+        }
         let (_, mut session) = open(Mode::Ctr, Direction::Encrypt, 128, &key, &iv);
         session.mode = mode;
         let before = session.clone();

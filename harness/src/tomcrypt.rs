@@ -1,4 +1,5 @@
-// Debian's libtomcrypt, a portable implementation in C that the benchmark measures too. It has no CFB with short segments.
+// Debian's libtomcrypt, a portable implementation in C. It has no CFB with short segments. Its counters in CTR are of whole bytes;
+// they count up behind each block and wrap without a word.
 use crate::openssl::Direction;
 use std::os::raw::{c_char, c_int, c_uchar, c_ulong, c_void};
 use std::sync::Once;
@@ -80,16 +81,24 @@ pub struct Cipher {
 }
 
 impl Cipher {
-    // None where the library has no such mode. The names are those of openssl::Cipher.
-    pub fn new(mode: &str, key: &[u8], iv: &[u8], direction: Direction) -> Option<Cipher> {
+    // None where the library has no such mode. The names are those of openssl::Cipher, and m is the counter's bits in CTR.
+    pub fn new(
+        mode: &str,
+        m: usize,
+        key: &[u8],
+        iv: &[u8],
+        direction: Direction,
+    ) -> Option<Cipher> {
         let (start, encrypt, decrypt): (Option<Start>, Work, Work) = match mode {
             "ecb" => (None, ecb_encrypt, ecb_decrypt),
             "cbc" => (Some(cbc_start), cbc_encrypt, cbc_decrypt),
             "cfb" => (Some(cfb_start), cfb_encrypt, cfb_decrypt),
             "ofb" => (Some(ofb_start), ofb_encrypt, ofb_decrypt),
-            "ctr" => (None, ctr_encrypt, ctr_decrypt),
+            "ctr" if m % 8 == 0 => (None, ctr_encrypt, ctr_decrypt),
             _ => return None,
         };
+        // the counter's bytes stand in the low byte
+        let counter = BIG_ENDIAN | m as c_int / 8;
         let mut state = Box::new(State([0; 8192]));
         let at = &mut *state as *mut State as *mut c_void;
         let length = key.len() as c_int;
@@ -100,7 +109,7 @@ impl Cipher {
             match start {
                 Some(start) => start(cipher, iv.as_ptr(), key.as_ptr(), length, 0, at),
                 None if mode == "ecb" => ecb_start(cipher, key.as_ptr(), length, 0, at),
-                None => ctr_start(cipher, iv.as_ptr(), key.as_ptr(), length, 0, BIG_ENDIAN, at),
+                None => ctr_start(cipher, iv.as_ptr(), key.as_ptr(), length, 0, counter, at),
             }
         };
         assert!(started == 0, "libtomcrypt answers {started}");

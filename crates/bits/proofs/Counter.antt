@@ -24,9 +24,9 @@ unfolding numberBytes
 numberBytes-bytes zero x = bytes-nil
 numberBytes-bytes (suc k) x = cons-bytes (mod-lt (x / 256 ^ k) (zero-lt-suc 255)) (numberBytes-bytes k x)
 
-pub increment-block : (r : List ℕ) → Block (increment r)
+pub increment-block : (m : ℕ) (r : List ℕ) → Block (increment m r)
 unfolding increment
-increment-block r = record { size = numberBytes-length 16 _; bytes = numberBytes-bytes 16 _ }
+increment-block m r = record { size = numberBytes-length 16 _; bytes = numberBytes-bytes 16 _ }
 
 -- ---- the number of some bytes
 
@@ -65,3 +65,10 @@ number-bytes bs h =
     number-inj (numberBytes (length bs) (number bs)) bs (numberBytes-bytes (length bs) (number bs)) h
     (numberBytes-length (length bs) (number bs))
     (number-numberBytes (length bs) (number bs) ∙ mod-eq-of-lt (number-lt bs h))
+
+-- only the lowest k bytes of a number are asked for
+pub numberBytes-same : (k x y : ℕ) → x % 256 ^ k ≡ y % 256 ^ k → numberBytes k x ≡ numberBytes k y
+numberBytes-same k x y e =
+    number-inj (numberBytes k x) (numberBytes k y) (numberBytes-bytes k x) (numberBytes-bytes k y)
+    (numberBytes-length k x ∙ sym (numberBytes-length k y))
+    (number-numberBytes k x ∙ e ∙ sym (number-numberBytes k y))

@@ -4,6 +4,7 @@ pub mod Xor
 pub mod Texts
 pub mod Xors
 pub mod Counter
+pub mod Counting
 pub mod Lists
 pub mod Arrays
 pub mod Owned

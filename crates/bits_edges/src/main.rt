@@ -112,17 +112,28 @@ fn show_lengths() {
     }
 }
 
-fn show_increments() {
+const COUNTERS: [usize; 14] = [0, 1, 3, 7, 8, 9, 16, 64, 119, 120, 121, 127, 128, 200];
+
+// A counter that wraps with any m, one that wraps with m up to 123, and one that wraps with m up to 3.
+fn show_increments(m: usize) {
     let mut block = [255u8; 16];
-    show(&bits::increment_block(block));
+    show(&bits::increment_block(block, m));
     block[0] = 7;
-    show(&bits::increment_block(block));
+    show(&bits::increment_block(block, m));
     block[15] = 7;
-    show(&bits::increment_block(block));
+    show(&bits::increment_block(block, m));
+}
+
+fn show_counters() {
+    let mut k = 0;
+    while k < 14 {
+        show_increments(COUNTERS[k]);
+        k += 1;
+    }
 }
 
 fn main() {
     show_lengths();
     show(&bits::xor_block(FIRST, SECOND));
-    show_increments();
+    show_counters();
 }

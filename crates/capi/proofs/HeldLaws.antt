@@ -26,32 +26,33 @@ no-mode code k h = rw (lt-leb code 4 h)
 
 -- ---- open
 
-module _ (code : ℕ) (decrypting : Bool) (n : ℕ) (key iv : List ℕ) where
-  pub not-opened : {r : Opened} → 4 < code → r .number ≡ 12 → r .session ≡ refusedSession → OpenedByNumber code decrypting n key iv r
+module _ (code : ℕ) (decrypting : Bool) (n m : ℕ) (key iv : List ℕ) where
+  pub not-opened : {r : Opened} → 4 < code → r .number ≡ 12 → r .session ≡ refusedSession → OpenedByNumber code decrypting n m key iv r
   unfolding openedNumber openedAs
   not-opened h a s =
-      let e = no-mode code (openNumber (modeOf code) n key iv) h in
+      let e = no-mode code (openNumber (modeOf code) n m key iv) h in
       record { answer = a ∙ sym e; opened = rw e s }
 
   pub opened : {mode : Mode} {dir : Direction} {r : Opened} → code ≤ 4 → mode ≡ modeOf code → dir ≡ directionOf decrypting
-      → OpenedBy mode dir n key iv r
-      → OpenedByNumber code decrypting n key iv r
+      → OpenedBy mode dir n m key iv r
+      → OpenedByNumber code decrypting n m key iv r
   unfolding openedNumber openedAs
-  opened h m d o =
-      let e = mode-number code (openNumber (modeOf code) n key iv) h in
-      record { answer = rw (e, ← m) (o .answer); opened = rw (e, ← m, ← d) (o .opened) }
+  opened h same d o =
+      let e = mode-number code (openNumber (modeOf code) n m key iv) h in
+      record { answer = rw (e, ← same) (o .answer); opened = rw (e, ← same, ← d) (o .opened) }
 
   -- The fields of what was opened, written one by one.
-  pub fields-written : {r : Opened} {m : ℕ} {d : Bool} → OpenedByNumber code decrypting n key iv r → m ≡ modeNumber (r .session .mode)
+  pub fields-written : {r : Opened} {mode : ℕ} {d : Bool} → OpenedByNumber code decrypting n m key iv r → mode ≡ modeNumber (r .session .mode)
       → d ≡ directionDecrypts (r .session .direction)
-      → OpenedAt code decrypting n key iv (r .number) m d (r .session .n) (r .session .rounds) (r .session .keys) (r .session .register) (r .session .units) (r .session .closed)
-  fields-written o m d =
+      → OpenedAt code decrypting n m key iv (r .number) mode d (r .session .n) (r .session .m) (r .session .rounds) (r .session .keys) (r .session .register) (r .session .units) (r .session .closed)
+  fields-written o same d =
       let s = o .opened in
       record {
         answer = o .answer;
-        mode-written = m ∙ rw s;
+        mode-written = same ∙ rw s;
         direction-written = d ∙ rw s;
         n-written = rw s;
+        m-written = rw s;
         rounds-written = rw s;
         keys-written = rw s;
         register-written = rw s;

@@ -38,39 +38,41 @@ coded code number = cond (leb code 4) number 12
 
 -- ---- open
 
-unfoldable pub openedNumber : ℕ → ℕ → List ℕ → List ℕ → ℕ
-openedNumber code n key iv = coded code (openNumber (modeOf code) n key iv)
+unfoldable pub openedNumber : ℕ → ℕ → ℕ → List ℕ → List ℕ → ℕ
+openedNumber code n m key iv = coded code (openNumber (modeOf code) n m key iv)
 
-unfoldable pub openedAs : ℕ → Bool → ℕ → List ℕ → List ℕ → Session
-openedAs code decrypting n key iv =
-    cond (eqb (openedNumber code n key iv) 0) (openedSession (modeOf code) (directionOf decrypting) n key iv) refusedSession
+unfoldable pub openedAs : ℕ → Bool → ℕ → ℕ → List ℕ → List ℕ → Session
+openedAs code decrypting n m key iv =
+    cond (eqb (openedNumber code n m key iv) 0) (openedSession (modeOf code) (directionOf decrypting) n m key iv) refusedSession
 
-module _ (code : ℕ) (decrypting : Bool) (n : ℕ) (key iv : List ℕ) where
+module _ (code : ℕ) (decrypting : Bool) (n m : ℕ) (key iv : List ℕ) where
   -- What an opening gives as a session in one piece.
   pub record OpenedByNumber (r : Opened) : Type 0 where
-    pub answer : r .number ≡ openedNumber code n key iv
-    pub opened : r .session ≡ openedAs code decrypting n key iv
+    pub answer : r .number ≡ openedNumber code n m key iv
+    pub opened : r .session ≡ openedAs code decrypting n m key iv
 
   -- What it answers, and what it writes to each of the session's fields.
-  pub record OpenedAt (r mode : ℕ) (decrypts : Bool) (size rounds : ℕ) (keys register : List ℕ) (units : ℕ) (closed : Bool) : Type 0 where
-    pub answer : r ≡ openedNumber code n key iv
-    pub mode-written : mode ≡ modeNumber (openedAs code decrypting n key iv .mode)
-    pub direction-written : decrypts ≡ directionDecrypts (openedAs code decrypting n key iv .direction)
-    pub n-written : size ≡ openedAs code decrypting n key iv .n
-    pub rounds-written : rounds ≡ openedAs code decrypting n key iv .rounds
-    pub keys-written : keys ≡ openedAs code decrypting n key iv .keys
-    pub register-written : register ≡ openedAs code decrypting n key iv .register
-    pub units-written : units ≡ openedAs code decrypting n key iv .units
-    pub closed-written : closed ≡ openedAs code decrypting n key iv .closed
+  pub record OpenedAt (r mode : ℕ) (decrypts : Bool) (size counter rounds : ℕ) (keys register : List ℕ) (units : ℕ) (closed : Bool) : Type 0 where
+    pub answer : r ≡ openedNumber code n m key iv
+    pub mode-written : mode ≡ modeNumber (openedAs code decrypting n m key iv .mode)
+    pub direction-written : decrypts ≡ directionDecrypts (openedAs code decrypting n m key iv .direction)
+    pub n-written : size ≡ openedAs code decrypting n m key iv .n
+    pub m-written : counter ≡ openedAs code decrypting n m key iv .m
+    pub rounds-written : rounds ≡ openedAs code decrypting n m key iv .rounds
+    pub keys-written : keys ≡ openedAs code decrypting n m key iv .keys
+    pub register-written : register ≡ openedAs code decrypting n m key iv .register
+    pub units-written : units ≡ openedAs code decrypting n m key iv .units
+    pub closed-written : closed ≡ openedAs code decrypting n m key iv .closed
 
 -- ---- feed
 
-unfoldable pub held : ℕ → Bool → ℕ → ℕ → List ℕ → List ℕ → ℕ → Bool → Session
-held code decrypting n rounds keys register units closed =
+unfoldable pub held : ℕ → Bool → ℕ → ℕ → ℕ → List ℕ → List ℕ → ℕ → Bool → Session
+held code decrypting n m rounds keys register units closed =
     record {
       mode = modeOf code;
       direction = directionOf decrypting;
       n = n;
+      m = m;
       rounds = rounds;
       keys = keys;
       register = register;
@@ -81,7 +83,7 @@ held code decrypting n rounds keys register units closed =
 -- The fields of a session, as an opening writes them, make that session again.
 unfoldable pub HeldAgain : Type 0
 HeldAgain =
-    (s : Session) → held (modeNumber (s .mode)) (directionDecrypts (s .direction)) (s .n) (s .rounds) (s .keys) (s .register) (s .units) (s .closed) ≡ s
+    (s : Session) → held (modeNumber (s .mode)) (directionDecrypts (s .direction)) (s .n) (s .m) (s .rounds) (s .keys) (s .register) (s .units) (s .closed) ≡ s
 
 -- What a feed of the session s answers and writes, s being held under the mode's number `code`.
 module _ (code : ℕ) (s : Session) (input : List ℕ) (count : ℕ) (out : List ℕ) (place : ℕ) where

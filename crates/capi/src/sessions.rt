@@ -57,8 +57,15 @@ fn decrypts(direction: Direction) -> bool
 }
 
 // A number that is no mode's gives the refused session, as every refused opening does.
-fn open_by_number(mode: usize, decrypting: bool, n: usize, key: &[u8], iv: &[u8]) -> Opened
-    ensures { λ r. ⌜ OpenedByNumber mode decrypting n (now (key .entry)) (now (iv .entry)) r ⌝ }
+fn open_by_number(
+    mode: usize,
+    decrypting: bool,
+    n: usize,
+    m: usize,
+    key: &[u8],
+    iv: &[u8],
+) -> Opened
+    ensures { λ r. ⌜ OpenedByNumber mode decrypting n m (now (key .entry)) (now (iv .entry)) r ⌝ }
 {
     if mode > 4 {
         return Opened {
@@ -66,10 +73,10 @@ fn open_by_number(mode: usize, decrypting: bool, n: usize, key: &[u8], iv: &[u8]
             session: Session::refused(),
         };
     }
-    Session::open(mode_of(mode), direction_of(decrypting), n, key, iv)
+    Session::open_counter(mode_of(mode), direction_of(decrypting), n, m, key, iv)
 }
 
-// Writes every field of the session that is opened, or refused, and gives the number.
+// Opens a session in which the whole block counts in CTR.
 #[no_mangle]
 pub extern "C" fn conguraha_open(
     mode: usize,
@@ -80,15 +87,57 @@ pub extern "C" fn conguraha_open(
     held_mode: &mut usize,
     held_decrypting: &mut bool,
     held_n: &mut usize,
+    held_m: &mut usize,
     rounds: &mut usize,
     keys: &mut [u8; 240],
     register: &mut [u8; 16],
     units: &mut u32,
     closed: &mut bool,
 ) -> u8
-    ensures { λ r. ⌜ OpenedAt mode decrypting n (now (key .entry)) (now (iv .entry)) r (now («held_mode» .exit)) (now («held_decrypting» .exit)) (now («held_n» .exit)) (now (rounds .exit)) (now (keys .exit)) (now (register .exit)) (now (units .exit)) (now (closed .exit)) ⌝ }
+    ensures { λ r. ⌜ OpenedAt mode decrypting n 128 (now (key .entry)) (now (iv .entry)) r (now («held_mode» .exit)) (now («held_decrypting» .exit)) (now («held_n» .exit)) (now («held_m» .exit)) (now (rounds .exit)) (now (keys .exit)) (now (register .exit)) (now (units .exit)) (now (closed .exit)) ⌝ }
 {
-    let opened = open_by_number(mode, decrypting, n, key, iv);
+    conguraha_open_counter(
+        mode,
+        decrypting,
+        n,
+        8 * Session::BLOCK,
+        key,
+        iv,
+        held_mode,
+        held_decrypting,
+        held_n,
+        held_m,
+        rounds,
+        keys,
+        register,
+        units,
+        closed,
+    )
+}
+
+// Opens a session in which the lowest m bits of the block count in CTR. Writes every field of the session that is opened, or
+// refused, and gives the number.
+#[no_mangle]
+pub extern "C" fn conguraha_open_counter(
+    mode: usize,
+    decrypting: bool,
+    n: usize,
+    m: usize,
+    key: &[u8],
+    iv: &[u8],
+    held_mode: &mut usize,
+    held_decrypting: &mut bool,
+    held_n: &mut usize,
+    held_m: &mut usize,
+    rounds: &mut usize,
+    keys: &mut [u8; 240],
+    register: &mut [u8; 16],
+    units: &mut u32,
+    closed: &mut bool,
+) -> u8
+    ensures { λ r. ⌜ OpenedAt mode decrypting n m (now (key .entry)) (now (iv .entry)) r (now («held_mode» .exit)) (now («held_decrypting» .exit)) (now («held_n» .exit)) (now («held_m» .exit)) (now (rounds .exit)) (now (keys .exit)) (now (register .exit)) (now (units .exit)) (now (closed .exit)) ⌝ }
+{
+    let opened = open_by_number(mode, decrypting, n, m, key, iv);
     let session = opened.session;
     let opened_mode = session.mode;
     let direction = session.direction;
@@ -97,6 +146,7 @@ pub extern "C" fn conguraha_open(
     *held_mode = mode_number(opened_mode);
     *held_decrypting = decrypts(direction);
     *held_n = session.n;
+    *held_m = session.m;
     *rounds = session.rounds;
     *keys = expanded;
     *register = first;
@@ -112,6 +162,7 @@ pub extern "C" fn conguraha_feed(
     mode: usize,
     decrypting: bool,
     n: usize,
+    m: usize,
     rounds: usize,
     keys: &[u8; 240],
     register: &mut [u8; 16],
@@ -123,7 +174,7 @@ pub extern "C" fn conguraha_feed(
     place: usize,
     runs: &mut usize,
 ) -> u8
-    ensures { λ r. ⌜ FedAt mode (held mode decrypting n rounds (now (keys .entry)) (now (register .entry)) (now (units .entry)) (now (closed .entry))) (now (input .entry)) bits (now (out .entry)) place r (now (register .exit)) (now (units .exit)) (now (closed .exit)) (now (out .exit)) (now (runs .exit)) ⌝ }
+    ensures { λ r. ⌜ FedAt mode (held mode decrypting n m rounds (now (keys .entry)) (now (register .entry)) (now (units .entry)) (now (closed .entry))) (now (input .entry)) bits (now (out .entry)) place r (now (register .exit)) (now (units .exit)) (now (closed .exit)) (now (out .exit)) (now (runs .exit)) ⌝ }
 {
     if mode > 4 {
         *runs = 0;
@@ -133,6 +184,7 @@ pub extern "C" fn conguraha_feed(
         mode: mode_of(mode),
         direction: direction_of(decrypting),
         n,
+        m,
         rounds,
         keys: *keys,
         register: *register,

@@ -4,7 +4,7 @@ use mathlib.Core.List.{List, [], _∷_}
 use Prim.Native.Nat.{ℕ}
 use Rattle.bits.specs.Xor.{xor, xorBytes}
 use Rattle.bits.specs.Texts.{bit, byteBits, bits, digit, byteOf, packTo, bytesFor, pack, xorBit, xorBits, shiftIn}
-use Rattle.bits.specs.Counter.{number, numberBytes, increment}
+use Rattle.bits.specs.Counter.{number, numberBytes, plusOne, increment}
 use Rattle.field.specs.Field.{double, shiftAdd, product, square, squares, inverse}
 use Rattle.field.specs.Boxes.{low, fromBits, affine, unaffine, subByte, invSubByte}
 use Rattle.field.specs.Rows.{four, wordAt}
@@ -69,5 +69,5 @@ unfolding encrypting
 cfb-1c = refl
 
 pub examples-pass : ExamplesPass
-unfolding ExamplesPass examples allPass same digits xor xorBytes bit byteBits bits digit byteOf packTo bytesFor pack xorBit xorBits shiftIn number numberBytes increment double shiftAdd product square squares inverse low fromBits affine subByte msb mask next cipher plain outOf nextOf unitAt unitsIn joined registerAt outAt worked ask bitsOk zerosFor padded upToLastOne lastBlock unpaddedLength wholeBlocks unpadQuestions unpadNumber
+unfolding ExamplesPass examples allPass same digits xor xorBytes bit byteBits bits digit byteOf packTo bytesFor pack xorBit xorBits shiftIn number numberBytes plusOne increment double shiftAdd product square squares inverse low fromBits affine subByte msb mask next cipher plain outOf nextOf unitAt unitsIn joined registerAt outAt worked ask bitsOk zerosFor padded upToLastOne lastBlock unpaddedLength wholeBlocks unpadQuestions unpadNumber
 examples-pass = rw (the-rounds, the-keys, iv-in, iv-back, cbc, cfb-8, cfb-1a, cfb-1b, cfb-1c)

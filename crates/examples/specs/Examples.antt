@@ -65,13 +65,13 @@ examples enc dec =
     ∷ record { given = enc iv; said = ivEncrypted }
     ∷ record { given = dec ivEncrypted; said = iv }
     -- CBC of one block
-    ∷ record { given = pack (worked enc dec Cbc Encrypt 128 iv (bits block)); said = blockEncrypted }
+    ∷ record { given = pack (worked enc dec Cbc Encrypt 128 128 iv (bits block)); said = blockEncrypted }
     -- 8-CFB of 6bc1
-    ∷ record { given = pack (worked enc dec Cfb Encrypt 8 iv (bits (0x6b ∷ 0xc1 ∷ []))); said = 0x3b ∷ 0x79 ∷ [] }
+    ∷ record { given = pack (worked enc dec Cfb Encrypt 8 128 iv (bits (0x6b ∷ 0xc1 ∷ []))); said = 0x3b ∷ 0x79 ∷ [] }
     -- 1-CFB of the bits 0110, and of what they become, back
-    ∷ record { given = digits (worked enc dec Cfb Encrypt 1 iv fourBits ++ worked enc dec Cfb Decrypt 1 iv fourBits); said = digits (fourBits ++ fourBits) }
+    ∷ record { given = digits (worked enc dec Cfb Encrypt 1 128 iv fourBits ++ worked enc dec Cfb Decrypt 1 128 iv fourBits); said = digits (fourBits ++ fourBits) }
     -- ff sixteen times, plus 1
-    ∷ record { given = increment (replicate 16 0xff); said = replicate 16 0x00 }
+    ∷ record { given = increment 128 (replicate 16 0xff); said = replicate 16 0x00 }
     -- pad of 0 bits, and of 128
     ∷ record { given = pack (padded []); said = 0x80 ∷ replicate 15 0x00 }
     ∷ record { given = length (padded (bits block)) ∷ []; said = 256 ∷ [] }

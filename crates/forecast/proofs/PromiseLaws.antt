@@ -75,8 +75,8 @@ forecast-holds s input count out place r after cost arrays fed f =
 
 pub message-forecast : MessageForecast
 unfolding MessageForecast RunsAddUp openedSession
-message-forecast mode dir n key iv r calls t cost key-bytes iv-bytes opening taken run f small =
-    let o : Opening = record { mode = mode; n = n; key = key; iv = iv } in
+message-forecast mode dir n m key iv r calls t cost key-bytes iv-bytes opening taken run f small =
+    let o : Opening = record { mode = mode; n = n; m = m; key = key; iv = iv } in
     let q = opened-run o dir key-bytes iv-bytes opening taken run in
     let costs = accepted f (all-yes mode n (length (allFed calls)) (q .unit) small (q .whole)) in
     let none : r .session .units ≡ 0 = ap (λ (s : Session). s .units) (opened-session opening taken) in

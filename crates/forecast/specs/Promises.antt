@@ -61,7 +61,7 @@ ForecastHolds =
 -- was cut. It is at most as long as the largest feed, since no longer one has a forecast.
 unfoldable pub MessageForecast : Type 0
 MessageForecast =
-    (mode : Mode) (dir : Direction) (n : ℕ) (key iv : List ℕ) (r : Opened) (calls : List Call) (t : Session) (cost : Cost)
-    → Bytes key → Bytes iv → OpenedBy mode dir n key iv r → r .number ≡ 0 → Run (r .session) calls t
+    (mode : Mode) (dir : Direction) (n m : ℕ) (key iv : List ℕ) (r : Opened) (calls : List Call) (t : Session) (cost : Cost)
+    → Bytes key → Bytes iv → OpenedBy mode dir n m key iv r → r .number ≡ 0 → Run (r .session) calls t
     → ForecastBy mode n (length (allFed calls)) cost → length (allFed calls) ≤ maxBits
     → (cost .number ≡ 0) × (allRuns calls ≡ cost .runs)

@@ -60,13 +60,15 @@ module _ (a b : Session) where
       let (most, register) = and-eq-true-iff _ _ .0 e in
       let (settings, keys) = and-eq-true-iff _ _ .0 most in
       let (e1, rounds) = and-eq-true-iff _ _ .0 settings in
-      let (e2, unit) = and-eq-true-iff _ _ .0 e1 in
-      let (mode, direction) = and-eq-true-iff _ _ .0 e2 in
+      let (e2, counter) = and-eq-true-iff _ _ .0 e1 in
+      let (e3, unit) = and-eq-true-iff _ _ .0 e2 in
+      let (mode, direction) = and-eq-true-iff _ _ .0 e3 in
       let used = keys-inside (a .rounds) in
       record {
         mode = sym (mode-of (a .mode)) ∙ ap modeOf (eqb-true _ _ mode) ∙ mode-of (b .mode);
         direction = sym (direction-of (a .direction)) ∙ ap directionOf (eqb-true _ _ direction) ∙ direction-of (b .direction);
         unit = eqb-true _ _ unit;
+        counter = eqb-true _ _ counter;
         rounds = eqb-true _ _ rounds;
         keys = same-means (a .keys) (b .keys) (keysUsed (a .rounds)) (omega (arith, sa .keys-size)) (omega (arith, sb .keys-size)) keys;
         register = sym (whole (a .register) (sa .register .size)) ∙ same-means (a .register) (b .register) 16 (omega (arith, sa .register .size)) (omega (arith, sb .register .size)) register ∙ whole (b .register) (sb .register .size);
@@ -79,6 +81,7 @@ module _ (a b : Session) where
         eq-eqb _ _ (ap modeIndex (h .mode)),
         eq-eqb _ _ (ap directionIndex (h .direction)),
         eq-eqb _ _ (h .unit),
+        eq-eqb _ _ (h .counter),
         eq-eqb _ _ (h .rounds),
         means-same (a .keys) (b .keys) (keysUsed (a .rounds)) (h .keys),
         means-same (a .register) (b .register) 16 (ap (take 16) (h .register)),

@@ -41,13 +41,13 @@ module _ (text : List ℕ) (h : Bytes text) where
   packed-block j = ap pack (unit-block j) ∙ pack-bits (blockAt text j) (take-bytes 16 (drop-bytes (j * 16) h))
 
   -- the register before it
-  register-before : (enc dec : List ℕ → List ℕ) (iv : List ℕ) (j : ℕ) → registerAt enc dec Cbc Decrypt 128 (start Cbc iv) (bits text) j ≡ neighbourOf iv text j
+  register-before : (enc dec : List ℕ → List ℕ) (iv : List ℕ) (j : ℕ) → registerAt enc dec Cbc Decrypt 128 128 (start Cbc iv) (bits text) j ≡ neighbourOf iv text j
   unfolding registerAt nextOf next start neighbourOf
   register-before enc dec iv zero = refl
   register-before enc dec iv (suc j) = packed-block j
 
   -- what it becomes
-  block-out : (enc dec : List ℕ → List ℕ) (iv : List ℕ) (j : ℕ) → outAt enc dec Cbc Decrypt 128 (start Cbc iv) (bits text) j ≡ bits (xorBytes (dec (blockAt text j)) (neighbourOf iv text j))
+  block-out : (enc dec : List ℕ → List ℕ) (iv : List ℕ) (j : ℕ) → outAt enc dec Cbc Decrypt 128 128 (start Cbc iv) (bits text) j ≡ bits (xorBytes (dec (blockAt text j)) (neighbourOf iv text j))
   unfolding outAt outOf plain
   block-out enc dec iv j = rw (register-before enc dec iv j, packed-block j)
 
@@ -62,5 +62,5 @@ block-of-the-feed key iv text j r hk hi ht opening accepted there =
     let ready = opened-ready opening accepted hk hi in
     let units : Taken Cbc 128 (bits text) = taken Cbc 128 (bits text) (ready .unit) (whole-text text ht whole) in
     rw (opened-session opening accepted)
-    (sym (worked-unit (ciphers ready) Decrypt (ready .arrays .register) units j (whole-there (length (bits text)) j (lit< tt) (rw length-bits (omega arith)))
+    (sym (worked-unit (ciphers ready) 128 Decrypt (ready .arrays .register) units j (whole-there (length (bits text)) j (lit< tt) (rw length-bits (omega arith)))
     ∙ block-out text ht (Enc (keyRounds key) (keyBytes key)) (Dec (keyRounds key) (keyBytes key)) iv j))

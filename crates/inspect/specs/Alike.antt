@@ -20,6 +20,7 @@ pub record Alike (a b : Session) : Type 0 where
   pub mode : a .mode ≡ b .mode
   pub direction : a .direction ≡ b .direction
   pub unit : a .n ≡ b .n
+  pub counter : a .m ≡ b .m
   pub rounds : a .rounds ≡ b .rounds
   pub keys : take (keysUsed (a .rounds)) (a .keys) ≡ take (keysUsed (a .rounds)) (b .keys)
   pub register : a .register ≡ b .register
@@ -45,7 +46,7 @@ sameFirst (suc k) a b = eqb (getD a k 0) (getD b k 0) && sameFirst k a b
 unfoldable pub sameSettings : Session → Session → Bool
 sameSettings a b =
     eqb (modeIndex (a .mode)) (modeIndex (b .mode)) && eqb (directionIndex (a .direction)) (directionIndex (b .direction))
-    && eqb (a .n) (b .n) && eqb (a .rounds) (b .rounds)
+    && eqb (a .n) (b .n) && eqb (a .m) (b .m) && eqb (a .rounds) (b .rounds)
 
 unfoldable pub alikeTo : Session → Session → Bool
 alikeTo a b =

@@ -21,13 +21,13 @@ use Rattle.inspect.specs.Alike.{Alike, alikeTo}
 -- For every j the single block is block j of what a whole decrypting CBC feed of the ciphertext gives.
 unfoldable pub BlockOfTheFeed : Type 0
 BlockOfTheFeed =
-    (key iv text : List ℕ) (j : ℕ) (r : Opened) → Bytes key → Bytes iv → Bytes text → OpenedBy Cbc Decrypt 128 key iv r → r .number ≡ 0
+    (key iv text : List ℕ) (j : ℕ) (r : Opened) → Bytes key → Bytes iv → Bytes text → OpenedBy Cbc Decrypt 128 128 key iv r → r .number ≡ 0
     → blockOk (length text) j ≡ true → bits (plainBlock key iv text j) ≡ unitAt 128 (sessionText (r .session) (bits text)) j
 
 -- By the calls: what an accepted single block writes is block j of what an accepted feed of the whole ciphertext wrote.
 unfoldable pub BlockByTheCalls : Type 0
 BlockByTheCalls =
-    (key iv text : List ℕ) (j : ℕ) (r : Opened) → Bytes key → Bytes iv → Bytes text → OpenedBy Cbc Decrypt 128 key iv r → r .number ≡ 0
+    (key iv text : List ℕ) (j : ℕ) (r : Opened) → Bytes key → Bytes iv → Bytes text → OpenedBy Cbc Decrypt 128 128 key iv r → r .number ≡ 0
     → (out : List ℕ) (place : ℕ) (fed : Fed) (after : List ℕ) → FedBy (r .session) text (length text * 8) out place fed after → fed .number ≡ 0
     → (out′ : List ℕ) (place′ number : ℕ) (after′ : List ℕ) → SingleBy key iv text j out′ place′ number after′ → number ≡ 0
     → take 16 (drop place′ after′) ≡ blockAt (drop place after) j

@@ -69,6 +69,9 @@ fn same_settings(a: Session, b: Session) -> bool
     if a.n != b.n {
         return false;
     }
+    if a.m != b.m {
+        return false;
+    }
     a.rounds == b.rounds
 }
 

@@ -24,6 +24,7 @@ fn made(mode: Mode, direction: Direction, n: usize, rounds: usize) -> Session {
         mode,
         direction,
         n,
+        m: 128,
         rounds,
         keys: [0x77; 240],
         register: [0x99; 16],
@@ -116,6 +117,38 @@ fn settings() {
     alike(b"14 and 15 rounds", first(14), first(15));
 }
 
+fn counting(m: usize) -> Session {
+    let opened = Session::open_counter(
+        Mode::Ctr,
+        Direction::Encrypt,
+        128,
+        m,
+        b"kkkkkkkkkkkkkkkk",
+        b"vvvvvvvvvvvvvvvv",
+    );
+    opened.session
+}
+
+// Sessions that differ in m alone; without one it is 128.
+fn counters() {
+    let a = first(10);
+    let mut b = a;
+    b.m = 127;
+    alike(b"m", a, b);
+    b.m = 4294967424;
+    alike(b"m, by 2^32", a, b);
+    alike(b"CTR, m 1 and 2", counting(1), counting(2));
+    alike(b"CTR, m 127 and 128", counting(127), counting(128));
+    let open = Session::open(
+        Mode::Ctr,
+        Direction::Encrypt,
+        128,
+        b"kkkkkkkkkkkkkkkk",
+        b"vvvvvvvvvvvvvvvv",
+    );
+    alike(b"CTR, m 128 and none", counting(128), open.session);
+}
+
 fn in_mode(mode: Mode) -> Session {
     made(mode, Direction::Encrypt, 128, 10)
 }
@@ -136,6 +169,7 @@ fn refused() {
         mode: Mode::Ecb,
         direction: Direction::Encrypt,
         n: 0,
+        m: 0,
         rounds: 0,
         keys: [0; 240],
         register: [0; 16],
@@ -145,6 +179,9 @@ fn refused() {
     let session = a.session;
     alike(b"refused", session, session);
     alike(b"refused, zeros", session, zeros);
+    let mut counted = zeros;
+    counted.m = 128;
+    alike(b"refused, m 128", session, counted);
 }
 
 pub fn run() {
@@ -153,6 +190,7 @@ pub fn run() {
     registers();
     progress();
     settings();
+    counters();
     modes_apart();
     refused();
 }

@@ -29,11 +29,11 @@ ask-prints (q ∷ qs) test =
     by-answer true here rest = rest
     by-answer false here rest = here
 
-pub open-prints : (mode : Mode) (n : ℕ) (key iv : List ℕ) → openNumber mode n key iv < 100
+pub open-prints : (mode : Mode) (n m : ℕ) (key iv : List ℕ) → openNumber mode n m key iv < 100
 unfolding openNumber openQuestions
-open-prints mode n key iv = ask-prints (openQuestions mode n key iv) refl
+open-prints mode n m key iv = ask-prints (openQuestions mode n m key iv) refl
 
 pub feed-prints : (s : Session) (bytes count size place : ℕ) → feedNumber s bytes count size place < 100
 unfolding feedNumber feedQuestions
 feed-prints s bytes count size place =
-    ask-prints (feedQuestions (s .mode) (s .rounds) (s .n) (s .closed) (s .units) bytes count size place) refl
+    ask-prints (feedQuestions (s .mode) (s .rounds) (s .n) (s .m) (s .closed) (s .units) bytes count size place) refl

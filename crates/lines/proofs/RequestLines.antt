@@ -41,12 +41,12 @@ module _ {s : List ℕ} {r : Form} (read : FormRead s (request s) r) where
     unfolding answerBytes answerTo
     answer-is = rw (← read .form, e)
 
-    module _ {o : Opened} (lent : OpenedBy mode direction n (hexBytes (part s key key-len)) (hexBytes (part s iv iv-len)) o) where
-      opened : OpenedBy mode direction n (bytesAt s key key-len) (bytesAt s iv iv-len) o
+    module _ {o : Opened} (lent : OpenedBy mode direction n 128 (hexBytes (part s key key-len)) (hexBytes (part s iv iv-len)) o) where
+      opened : OpenedBy mode direction n 128 (bytesAt s key key-len) (bytesAt s iv iv-len) o
       opened = rw (part-is s key key-len, part-is s iv iv-len) at lent
 
       pub opening-prints : o .number < 100
-      opening-prints = rw (opened .answer) (open-prints mode n (bytesAt s key key-len) (bytesAt s iv iv-len))
+      opening-prints = rw (opened .answer) (open-prints mode n 128 (bytesAt s key key-len) (bytesAt s iv iv-len))
 
       pub refused-opening : (o .number ≡ 0 → ⊥) → answerBytes s ≡ lineOf (o .number) []
       unfolding requestLine
@@ -55,5 +55,5 @@ module _ {s : List ℕ} {r : Form} (read : FormRead s (request s) r) where
       pub accepted-opening : o .number ≡ 0 → answerBytes s ≡ fedLine (o .session) (hexBytes (part s message message-len))
       unfolding requestLine
       accepted-opening accepted =
-          let zero = eq-eqb (openNumber mode n (bytesAt s key key-len) (bytesAt s iv iv-len)) 0 (sym (opened .answer) ∙ accepted) in
+          let zero = eq-eqb (openNumber mode n 128 (bytesAt s key key-len) (bytesAt s iv iv-len)) 0 (sym (opened .answer) ∙ accepted) in
           answer-is ∙ rw (opened .opened, zero, part-is s message message-len)

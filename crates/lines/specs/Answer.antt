@@ -26,8 +26,8 @@ fedLine s message =
 -- The feed is asked where the opening answers 0.
 unfoldable pub requestLine : Request → List ℕ
 requestLine q =
-    let number = openNumber (q .mode) (q .n) (q .key) (q .iv) in
-    cond (eqb number 0) (fedLine (openedSession (q .mode) (q .direction) (q .n) (q .key) (q .iv)) (q .message)) (lineOf number [])
+    let number = openNumber (q .mode) (q .n) 128 (q .key) (q .iv) in
+    cond (eqb number 0) (fedLine (openedSession (q .mode) (q .direction) (q .n) 128 (q .key) (q .iv)) (q .message)) (lineOf number [])
 
 -- Number 12 is a text that is not of the form.
 unfoldable pub answerTo : Option Request → List ℕ

@@ -21,7 +21,7 @@ pub const MAX_INPUT: usize = 8461;
 // Opens under a key and an IV in digits.
 fn open_with(mode: Mode, n: usize, direction: Direction, key: &[u8], iv: &[u8]) -> Opened
     requires { ⌜ (length (now key) ≤ 128) × (length (now iv) ≤ 128) ⌝ }
-    ensures { λ r. ⌜ OpenedBy mode direction n (hexBytes (now (key .entry))) (hexBytes (now (iv .entry))) r ⌝ }
+    ensures { λ r. ⌜ OpenedBy mode direction n 128 (hexBytes (now (key .entry))) (hexBytes (now (iv .entry))) r ⌝ }
 {
     let mut key_bytes = [0u8; 64];
     let mut iv_bytes = [0u8; 64];

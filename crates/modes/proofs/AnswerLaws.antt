@@ -13,7 +13,7 @@ use Rattle.bits.specs.Texts.{pack}
 use Rattle.aes.specs.Calls.{keyOk, keyNumber}
 use Rattle.rules.specs.declared.Mode.{Mode}
 use Rattle.rules.specs.declared.Direction.{Direction}
-use Rattle.rules.specs.Lengths.{unitLengthOk}
+use Rattle.rules.specs.Lengths.{unitLengthOk, counterLengthOk}
 use Rattle.rules.specs.Rules.{unitsIn}
 use Rattle.modes.specs.declared.session.Session.{Session}
 use Rattle.questions.specs.Questions.{ask, ivOk, openQuestions}
@@ -37,28 +37,32 @@ key-yes key e = go (keyOk key) e
     go true e = refl
     go false e = absurd (suc-ne-zero 0 e)
 
-module _ (mode : Mode) (dir : Direction) (n : ℕ) (key iv : List ℕ) where
-  opening-refused : (k : ℕ) {s : Session} → openNumber mode n key iv ≡ suc k → s ≡ refusedSession → OpenedBy mode dir n key iv (record { number = suc k; session = s })
+module _ (mode : Mode) (dir : Direction) (n m : ℕ) (key iv : List ℕ) where
+  opening-refused : (k : ℕ) {s : Session} → openNumber mode n m key iv ≡ suc k → s ≡ refusedSession → OpenedBy mode dir n m key iv (record { number = suc k; session = s })
   opening-refused k e f = record { answer = sym e; opened = f ∙ rw (e, ne-eqb (suc k) 0 (suc-ne-zero k)) }
 
-  pub refused-1 : {s : Session} → keyOk key ≡ false → s ≡ refusedSession → OpenedBy mode dir n key iv (record { number = 1; session = s })
+  pub refused-1 : {s : Session} → keyOk key ≡ false → s ≡ refusedSession → OpenedBy mode dir n m key iv (record { number = 1; session = s })
   unfolding openNumber ask openQuestions
   refused-1 a f = opening-refused 0 (rw a) f
 
-  pub refused-2 : {s : Session} → keyOk key ≡ true → ivOk mode iv ≡ false → s ≡ refusedSession → OpenedBy mode dir n key iv (record { number = 2; session = s })
+  pub refused-2 : {s : Session} → keyOk key ≡ true → ivOk mode iv ≡ false → s ≡ refusedSession → OpenedBy mode dir n m key iv (record { number = 2; session = s })
   unfolding openNumber ask openQuestions
   refused-2 a b f = opening-refused 1 (rw (a, b)) f
 
-  pub refused-3 : {s : Session} → keyOk key ≡ true → ivOk mode iv ≡ true → unitLengthOk mode n ≡ false → s ≡ refusedSession → OpenedBy mode dir n key iv (record { number = 3; session = s })
+  pub refused-3 : {s : Session} → keyOk key ≡ true → ivOk mode iv ≡ true → unitLengthOk mode n ≡ false → s ≡ refusedSession → OpenedBy mode dir n m key iv (record { number = 3; session = s })
   unfolding openNumber ask openQuestions
   refused-3 a b c f = opening-refused 2 (rw (a, b, c)) f
 
-  no-no : keyOk key ≡ true → ivOk mode iv ≡ true → unitLengthOk mode n ≡ true → openNumber mode n key iv ≡ 0
+  pub refused-14 : {s : Session} → keyOk key ≡ true → ivOk mode iv ≡ true → unitLengthOk mode n ≡ true → counterLengthOk mode m ≡ false → s ≡ refusedSession → OpenedBy mode dir n m key iv (record { number = 14; session = s })
   unfolding openNumber ask openQuestions
-  no-no a b c = rw (a, b, c)
+  refused-14 a b c d f = opening-refused 13 (rw (a, b, c, d)) f
 
-  pub accepted-opening : {s : Session} → keyOk key ≡ true → ivOk mode iv ≡ true → unitLengthOk mode n ≡ true → s ≡ openedSession mode dir n key iv → OpenedBy mode dir n key iv (record { number = 0; session = s })
-  accepted-opening a b c f = let z = no-no a b c in record { answer = sym z; opened = f ∙ rw z }
+  no-no : keyOk key ≡ true → ivOk mode iv ≡ true → unitLengthOk mode n ≡ true → counterLengthOk mode m ≡ true → openNumber mode n m key iv ≡ 0
+  unfolding openNumber ask openQuestions
+  no-no a b c d = rw (a, b, c, d)
+
+  pub accepted-opening : {s : Session} → keyOk key ≡ true → ivOk mode iv ≡ true → unitLengthOk mode n ≡ true → counterLengthOk mode m ≡ true → s ≡ openedSession mode dir n m key iv → OpenedBy mode dir n m key iv (record { number = 0; session = s })
+  accepted-opening a b c d f = let z = no-no a b c d in record { answer = sym z; opened = f ∙ rw z }
 
 -- ---- feed
 
@@ -86,6 +90,6 @@ part-written out place count x part h l r e =
 
 -- The session that comes back.
 pub moved : (s : Session) (x : List Bool) (count : ℕ) {r : List ℕ} {new : ℕ} → length x ≡ count → r ≡ sessionRegister s x (unitsIn (s .n) count) → new ≡ unitsIn (s .n) count
-    → _≡_ {A = Session} (record { mode = s .mode; direction = s .direction; n = s .n; rounds = s .rounds; keys = s .keys; register = r; units = s .units + new; closed = not (eqb (count % s .n) 0) }) (fedSession s x)
+    → _≡_ {A = Session} (record { mode = s .mode; direction = s .direction; n = s .n; m = s .m; rounds = s .rounds; keys = s .keys; register = r; units = s .units + new; closed = not (eqb (count % s .n) 0) }) (fedSession s x)
 unfolding fedSession
 moved s x count l p q = rw (l, p, q)

@@ -30,10 +30,10 @@ use Rattle.modes.proofs.RegisterLaws.{along-length, along-at, sessionRe
 record ListRun (o : Opening) (calls : List Call) : Type 0 where
   pub followed : Followed o calls
   pub register : (t : ℕ) → t ≤ unitsIn (o .n) (length (allFed calls))
-      → getD (registers o calls) t [] ≡ registerAt (encrypted (o .key)) (decrypted (o .key)) (o .mode) Decrypt (o .n) (start (o .mode) (o .iv)) (allFed calls) t
+      → getD (registers o calls) t [] ≡ registerAt (encrypted (o .key)) (decrypted (o .key)) (o .mode) Decrypt (o .n) (o .m) (start (o .mode) (o .iv)) (allFed calls) t
 
 list-run : (o : Opening) {r : Opened} {calls : List Call} {t : Session} → Bytes (o .key) → Bytes (o .iv)
-    → OpenedBy (o .mode) Decrypt (o .n) (o .key) (o .iv) r → r .number ≡ 0 → Run (r .session) calls t → ListRun o calls
+    → OpenedBy (o .mode) Decrypt (o .n) (o .m) (o .key) (o .iv) r → r .number ≡ 0 → Run (r .session) calls t → ListRun o calls
 unfolding machineStart sessionOf openedSession registers sessionRegisters sessionRegister registerAt encrypted decrypted
 list-run o {r} {calls} {t} key-bytes iv-bytes opening accepted run =
     let same = opened-session opening accepted in
@@ -51,8 +51,8 @@ list-run o {r} {calls} {t} key-bytes iv-bytes opening accepted run =
       register = by-place regs;
     }
   where
-    by-place : registersAfter (machineStart o) calls ≡ sessionRegisters (openedSession (o .mode) Decrypt (o .n) (o .key) (o .iv)) (allFed calls) → (t : ℕ) → t ≤ unitsIn (o .n) (length (allFed calls))
-        → getD (registers o calls) t [] ≡ registerAt (encrypted (o .key)) (decrypted (o .key)) (o .mode) Decrypt (o .n) (start (o .mode) (o .iv)) (allFed calls) t
+    by-place : registersAfter (machineStart o) calls ≡ sessionRegisters (openedSession (o .mode) Decrypt (o .n) (o .m) (o .key) (o .iv)) (allFed calls) → (t : ℕ) → t ≤ unitsIn (o .n) (length (allFed calls))
+        → getD (registers o calls) t [] ≡ registerAt (encrypted (o .key)) (decrypted (o .key)) (o .mode) Decrypt (o .n) (o .m) (start (o .mode) (o .iv)) (allFed calls) t
     by-place regs zero h = refl
     by-place regs (suc t) h = ap (λ l. getD l t []) regs ∙ along-at (unitsIn (o .n) (length (allFed calls))) _ [] t (omega arith)
 
@@ -62,15 +62,15 @@ within i k s bits some inside to = let cover = le-of-mul-le-mul-right (le-trans 
 
 pub demand-three : DemandThree
 unfolding DemandThree RecoveryHolds
-demand-three mode n key v w r r′ calls others t u key-bytes v-bytes w-bytes opening accepted opening′ accepted′ run run′ =
-    let o : Opening = record { mode = mode; n = n; key = key; iv = v } in
-    let o′ : Opening = record { mode = mode; n = n; key = key; iv = w } in
+demand-three mode n m m′ key v w r r′ calls others t u key-bytes v-bytes w-bytes opening accepted opening′ accepted′ run run′ =
+    let o : Opening = record { mode = mode; n = n; m = m; key = key; iv = v } in
+    let o′ : Opening = record { mode = mode; n = n; m = m′; key = key; iv = w } in
     let q = opened-run o Decrypt key-bytes v-bytes opening accepted run in
     let q′ = opened-run o′ Decrypt key-bytes w-bytes opening′ accepted′ run′ in
     let l = list-run o key-bytes v-bytes opening accepted run in
     let l′ = list-run o′ key-bytes w-bytes opening′ accepted′ run′ in
     let some = unit-bounds mode n (q .unit) .0 in
-    let recovery = recovery-holds (encrypted key) (decrypted key) mode n v w (allFed calls) (allFed others) (q .block-ciphers) (q .unit) (q .whole) (q′ .whole) (q .block) (q′ .block) in
+    let recovery = recovery-holds (encrypted key) (decrypted key) mode n m m′ v w (allFed calls) (allFed others) (q .block-ciphers) (q .unit) (q .whole) (q′ .whole) (q .block) (q′ .block) in
     record {
       machine = l .followed;
       other-machine = l′ .followed;
@@ -81,5 +81,5 @@ demand-three mode n key v w r r′ calls others t u key-bytes v-bytes w-bytes op
       one-block-ecb = λ ecb j change. rw (q .text, q′ .text) (recovery .one-block-ecb ecb j change);
       one-block = λ cbc same j change. rw (q .text, q′ .text) (recovery .one-block cbc same j change);
       one-segment = λ cfb same j change. rw (q .text, q′ .text) (recovery .one-segment cfb same j change);
-      same-bits = λ free same long b. rw (q .text, q′ .text) (recovery .same-bits free same long b);
+      same-bits = λ free same counters long b. rw (q .text, q′ .text) (recovery .same-bits free same counters long b);
     }

@@ -29,9 +29,9 @@ refused-unchanged s input count out place r after fed refused =
 
 module _ {s : Session} {input : List ℕ} {count : ℕ} {out : List ℕ} {place : ℕ} {r : Fed} {after : List ℕ}
     (fed : FedBy s input count out place r after) (accepted : r .number ≡ 0) where
-  pub asked : FeedTaken (s .mode) (s .rounds) (s .n) (s .closed) (s .units) (length input) count (length out) place
+  pub asked : FeedTaken (s .mode) (s .rounds) (s .n) (s .m) (s .closed) (s .units) (length input) count (length out) place
   unfolding feedNumber
-  asked = feed-taken (s .mode) (s .rounds) (s .n) (s .closed) (s .units) (length input) count (length out) place (sym (fed .answer) ∙ accepted)
+  asked = feed-taken (s .mode) (s .rounds) (s .n) (s .m) (s .closed) (s .units) (length input) count (length out) place (sym (fed .answer) ∙ accepted)
 
   pub accepted-not-closed : s .closed ≡ false
   accepted-not-closed = asked .not-closed

@@ -12,3 +12,5 @@ pub mod MachineLaws
 pub mod AgreementLaws
 pub mod RegisterLaws
 pub mod DemandThree
+pub mod CounterLaws
+pub mod WholeBlockLaws

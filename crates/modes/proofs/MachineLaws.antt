@@ -60,7 +60,7 @@ module _ (m : Machine) (x : List Bool) where
   units-done (suc k) = rw unit-more (omega (arith, units-done k))
 
   pub units-register : (k : ℕ)
-      → machineUnits k m x .register ≡ registerAt (encrypted (m .opening .key)) (decrypted (m .opening .key)) (m .opening .mode) Decrypt (m .opening .n) (m .register) x k
+      → machineUnits k m x .register ≡ registerAt (encrypted (m .opening .key)) (decrypted (m .opening .key)) (m .opening .mode) Decrypt (m .opening .n) (m .opening .m) (m .register) x k
   unfolding machineUnits machineUnit registerAt nextOf
   units-register zero = refl
   units-register (suc k) = rw (unit-more, units-opening k, units-register k)
@@ -71,7 +71,7 @@ module _ (m : Machine) (x : List Bool) where
   units-ciphertext (suc k) = rw (unit-more, units-ciphertext k, append-assoc)
 
   units-plaintext : (k : ℕ)
-      → machineUnits k m x .plaintext ≡ m .plaintext ++ joined k (outAt (encrypted (m .opening .key)) (decrypted (m .opening .key)) (m .opening .mode) Decrypt (m .opening .n) (m .register) x)
+      → machineUnits k m x .plaintext ≡ m .plaintext ++ joined k (outAt (encrypted (m .opening .key)) (decrypted (m .opening .key)) (m .opening .mode) Decrypt (m .opening .n) (m .opening .m) (m .register) x)
   unfolding machineUnits machineUnit joined outAt outOf
   units-plaintext zero = sym (append-nil (m .plaintext))
   units-plaintext (suc k) = rw (unit-more, units-opening k, units-register k, units-plaintext k, append-assoc)
@@ -108,6 +108,7 @@ sessionOf m =
       mode = m .opening .mode;
       direction = Decrypt;
       n = m .opening .n;
+      m = m .opening .m;
       rounds = keyRounds (m .opening .key);
       keys = keyBytes (m .opening .key);
       register = m .register;

@@ -24,12 +24,12 @@ pub record OpenedRun (o : Opening) (dir : Direction) (calls : List Call) (t : Se
   pub unit : unitLengthOk (o .mode) (o .n) ≡ true
   pub block : Block (start (o .mode) (o .iv))
   pub whole : wholeUnits (o .mode) (o .n) (length (allFed calls)) ≡ true
-  pub text : allWritten calls ≡ worked (encrypted (o .key)) (decrypted (o .key)) (o .mode) dir (o .n) (start (o .mode) (o .iv)) (allFed calls)
-  pub register : t .register ≡ registerAt (encrypted (o .key)) (decrypted (o .key)) (o .mode) dir (o .n) (start (o .mode) (o .iv)) (allFed calls) (unitsIn (o .n) (length (allFed calls)))
+  pub text : allWritten calls ≡ worked (encrypted (o .key)) (decrypted (o .key)) (o .mode) dir (o .n) (o .m) (start (o .mode) (o .iv)) (allFed calls)
+  pub register : t .register ≡ registerAt (encrypted (o .key)) (decrypted (o .key)) (o .mode) dir (o .n) (o .m) (start (o .mode) (o .iv)) (allFed calls) (unitsIn (o .n) (length (allFed calls)))
   pub units : t .units ≡ unitsIn (o .n) (length (allFed calls))
 
 pub opened-run : (o : Opening) (dir : Direction) {r : Opened} {calls : List Call} {t : Session} → Bytes (o .key) → Bytes (o .iv)
-    → OpenedBy (o .mode) dir (o .n) (o .key) (o .iv) r → r .number ≡ 0 → Run (r .session) calls t → OpenedRun o dir calls t
+    → OpenedBy (o .mode) dir (o .n) (o .m) (o .key) (o .iv) r → r .number ≡ 0 → Run (r .session) calls t → OpenedRun o dir calls t
 unfolding openedSession sessionText sessionRegister fedSession encrypted decrypted
 opened-run o dir {r} {calls} {t} key-bytes iv-bytes opening accepted run =
     let ready = opened-ready opening accepted key-bytes iv-bytes in

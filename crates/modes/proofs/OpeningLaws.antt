@@ -35,21 +35,21 @@ start-block Ctr iv bytes size = record { size = eqb-true (length iv) 16 size; by
 
 pub refused-opening : RefusedOpening
 unfolding RefusedOpening
-refused-opening mode dir n key iv r opening refused =
-    rw (ne-eqb (openNumber mode n key iv) 0 (λ e. refused (opening .answer ∙ e))) at (opening .opened)
+refused-opening mode dir n m key iv r opening refused =
+    rw (ne-eqb (openNumber mode n m key iv) 0 (λ e. refused (opening .answer ∙ e))) at (opening .opened)
 
-module _ {mode : Mode} {dir : Direction} {n : ℕ} {key iv : List ℕ} {r : Opened} (opening : OpenedBy mode dir n key iv r) (accepted : r .number ≡ 0) where
-  number-zero : openNumber mode n key iv ≡ 0
+module _ {mode : Mode} {dir : Direction} {n m : ℕ} {key iv : List ℕ} {r : Opened} (opening : OpenedBy mode dir n m key iv r) (accepted : r .number ≡ 0) where
+  number-zero : openNumber mode n m key iv ≡ 0
   number-zero = sym (opening .answer) ∙ accepted
 
-  asked : OpeningTaken mode n key iv
+  asked : OpeningTaken mode n m key iv
   unfolding openNumber
-  asked = opening-taken mode n key iv number-zero
+  asked = opening-taken mode n m key iv number-zero
 
-  pub opened-session : r .session ≡ openedSession mode dir n key iv
-  opened-session = rw (eq-eqb (openNumber mode n key iv) 0 number-zero) at (opening .opened)
+  pub opened-session : r .session ≡ openedSession mode dir n m key iv
+  opened-session = rw (eq-eqb (openNumber mode n m key iv) 0 number-zero) at (opening .opened)
 
-  pub opened-ready : Bytes key → Bytes iv → Ready (openedSession mode dir n key iv)
+  pub opened-ready : Bytes key → Bytes iv → Ready (openedSession mode dir n m key iv)
   unfolding openedSession AcceptedExpands
   opened-ready key-bytes iv-bytes =
       let expands = accepted-expands key key-bytes (asked .key-size) in

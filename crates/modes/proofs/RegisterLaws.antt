@@ -14,17 +14,13 @@ use Rattle.rules.proofs.Append.{register-first, register-second, units-append}
 use Rattle.modes.specs.declared.session.Session.{Session}
 use Rattle.modes.specs.Sessions.{FedBy, sessionRegister, fedSession, fedText}
 use Rattle.modes.specs.Machine.{Machine, machineUnit, machineUnits, unitRegisters, feedRegisters}
-use Rattle.modes.specs.Lists.{Call, Run, done, fed, accepted, fedBits, allFed, registersAfter}
+use Rattle.modes.specs.Lists.{Call, Run, done, fed, accepted, fedBits, allFed, along, registersAfter}
 use Rattle.modes.proofs.SessionLaws.{Ready, some-bits, bits-of-units, encBy, decBy, whole-fed}
 use Rattle.modes.proofs.RunLaws.{Accepted, Step, refused, taken, accepted-fed, step, step-ready, ended}
 use Rattle.modes.proofs.MachineLaws.{sessionOf, units-register}
 use Rattle.modes.proofs.AgreementLaws.{fedMachine, same-number, agree}
 
 -- ---- f 0, f 1, .. f (k - 1)
-
-unfoldable pub along : {A : Type 0} → ℕ → (ℕ → A) → List A
-along zero f = []
-along (suc k) f = f 0 ∷ along k (λ t. f (suc t))
 
 module _ {A : Type 0} where
   pub along-length : (k : ℕ) (f : ℕ → A) → length (along k f) ≡ k
@@ -38,12 +34,12 @@ module _ {A : Type 0} where
   along-at (suc k) f d zero h = refl
   along-at (suc k) f d (suc t) h = along-at k (λ t. f (suc t)) d t (omega arith)
 
-  along-same : (k : ℕ) {f g : ℕ → A} → ((t : ℕ) → t < k → f t ≡ g t) → along k f ≡ along k g
+  pub along-same : (k : ℕ) {f g : ℕ → A} → ((t : ℕ) → t < k → f t ≡ g t) → along k f ≡ along k g
   unfolding along
   along-same zero same = refl
   along-same (suc k) same = ap₂ _∷_ (same 0 (omega arith)) (along-same k (λ t h. same (suc t) (omega arith)))
 
-  along-add : (a b : ℕ) (f : ℕ → A) → along (a + b) f ≡ along a f ++ along b (λ t. f (a + t))
+  pub along-add : (a b : ℕ) (f : ℕ → A) → along (a + b) f ≡ along a f ++ along b (λ t. f (a + t))
   unfolding along
   along-add zero b f = simp zero-add
   along-add (suc a) b f = simp suc-add (ap (λ l. f 0 ∷ l) (along-add a b (λ t. f (suc t))))
@@ -63,10 +59,10 @@ module _ {s : Session} (ready : Ready s) where
   registers-append x y units =
       let k = unitsIn (s .n) (length x) in
       let whole = bits-of-units ready x y units in
-      rw (units-append (encBy s) (decBy s) (s .mode) (s .direction) (s .n) (s .register) x y k whole (some-bits ready), along-add)
+      rw (units-append (encBy s) (decBy s) (s .mode) (s .direction) (s .n) (s .m) (s .register) x y k whole (some-bits ready), along-add)
       (ap₂ _++_
-      (along-same k (λ t h. register-first (encBy s) (decBy s) (s .mode) (s .direction) (s .n) (s .register) x y k whole (suc t) (omega arith)))
-      (along-same (unitsIn (s .n) (length y)) (λ t h. rw (← add-suc) (register-second (encBy s) (decBy s) (s .mode) (s .direction) (s .n) (s .register) x y k whole (suc t)))))
+      (along-same k (λ t h. register-first (encBy s) (decBy s) (s .mode) (s .direction) (s .n) (s .m) (s .register) x y k whole (suc t) (omega arith)))
+      (along-same (unitsIn (s .n) (length y)) (λ t h. rw (← add-suc) (register-second (encBy s) (decBy s) (s .mode) (s .direction) (s .n) (s .m) (s .register) x y k whole (suc t)))))
 
 -- ---- the machine's registers
 

@@ -69,14 +69,14 @@ module _ {s : Session} (ready : Ready s) where
     pub text-append : sessionText s (x ++ y) ≡ sessionText s x ++ sessionText (fedSession s x) y
     unfolding sessionText fedSession sessionRegister
     text-append =
-        worked-append (encBy s) (decBy s) (s .mode) (s .direction) (s .n) (s .register) x y (unitsIn (s .n) (length x)) bits-of-units some-bits
+        worked-append (encBy s) (decBy s) (s .mode) (s .direction) (s .n) (s .m) (s .register) x y (unitsIn (s .n) (length x)) bits-of-units some-bits
 
     pub fed-append : fedSession s (x ++ y) ≡ fedSession (fedSession s x) y
     unfolding fedSession sessionRegister
     fed-append =
         rw (
-          units-append (encBy s) (decBy s) (s .mode) (s .direction) (s .n) (s .register) x y (unitsIn (s .n) (length x)) bits-of-units some-bits,
-          register-second (encBy s) (decBy s) (s .mode) (s .direction) (s .n) (s .register) x y (unitsIn (s .n) (length x)) bits-of-units (unitsIn (s .n) (length y)),
+          units-append (encBy s) (decBy s) (s .mode) (s .direction) (s .n) (s .m) (s .register) x y (unitsIn (s .n) (length x)) bits-of-units some-bits,
+          register-second (encBy s) (decBy s) (s .mode) (s .direction) (s .n) (s .m) (s .register) x y (unitsIn (s .n) (length x)) bits-of-units (unitsIn (s .n) (length y)),
           ← add-assoc,
           rest-of-bits,
         )
@@ -90,14 +90,14 @@ module _ {s : Session} (ready : Ready s) where
 
     pub text-length : length (sessionText s x) ≡ length x
     unfolding sessionText
-    text-length = worked-length ciphers (s .direction) (ready .arrays .register) text
+    text-length = worked-length ciphers (s .m) (s .direction) (ready .arrays .register) text
 
     pub fed-ready : Ready (fedSession s x)
     unfolding fedSession sessionRegister
     fed-ready =
         record {
           arrays = record {
-            register = registers-block ciphers (s .direction) (ready .arrays .register) text (unitsIn (s .n) (length x)) (le-refl (unitsIn (s .n) (length x)));
+            register = registers-block ciphers (s .m) (s .direction) (ready .arrays .register) text (unitsIn (s .n) (length x)) (le-refl (unitsIn (s .n) (length x)));
             keys = ready .arrays .keys;
             keys-size = ready .arrays .keys-size;
           };

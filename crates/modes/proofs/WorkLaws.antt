@@ -137,13 +137,13 @@ module _ {mode : Mode} {n : ℕ} {input : List ℕ} {count : ℕ} {out : List �
   unfolding bytesFor
   unit-fits = (omega (arith, unit-bounds mode n (w .unit-length)), omega (arith, unit-inside, w .room))
 
-  pub unit-worked : {f : List ℕ → List ℕ} {dir : Direction} {register : List ℕ} {size : ℕ} {unit after : List ℕ} {step : Step} → size ≡ min n (count - t * n)
+  pub unit-worked : {f : List ℕ → List ℕ} {dir : Direction} {m : ℕ} {register : List ℕ} {size : ℕ} {unit after : List ℕ} {step : Step} → size ≡ min n (count - t * n)
       → unit ≡ packTo 16 (take size (drop (t * n % 8) (bits (drop (t * n / 8) input))))
-      → Turned f mode dir register unit size step → after ≡ putBits out (t * n) (take size (bits (step .out)))
-      → UnitWorked f mode dir n register input count out t (record { register = step .register; runs = step .runs }) after
-  unit-worked {f} {dir} {register} {size} {unit} e u turned put =
+      → Turned f mode dir m register unit size step → after ≡ putBits out (t * n) (take size (bits (step .out)))
+      → UnitWorked f mode dir n m register input count out t (record { register = step .register; runs = step .runs }) after
+  unit-worked {f} {dir} {m} {register} {size} {unit} e u turned put =
       record {
-        register-after = turned .register-after ∙ ap (nextOf f f mode dir register) found;
+        register-after = turned .register-after ∙ ap (nextOf f f mode dir m register) found;
         out-after = put ∙ ap (putBits out (t * n)) (turned .out-bits ∙ ap (outOf f f mode dir register) found);
         one-run = turned .one-run;
       }
@@ -169,17 +169,17 @@ put-next x s old at e o p =
     p ∙ ap₂ (λ b k. putBits b k s) o (sym e) ∙ put-after x s old ∙ ap (λ k. pack (x ++ s) ++ drop (bytesFor k) old) (sym (length-append x s))
 
 -- After t units: the register, the runs, and what they became in front of the rest of the old output.
-pub record Through (mode : Mode) (dir : Direction) (n rounds : ℕ) (keys register input : List ℕ) (count : ℕ) (old : List ℕ) (t : ℕ) (r : Progress) (out : List ℕ) : Type 0 where
+pub record Through (mode : Mode) (dir : Direction) (n m rounds : ℕ) (keys register input : List ℕ) (count : ℕ) (old : List ℕ) (t : ℕ) (r : Progress) (out : List ℕ) : Type 0 where
   pub runs-now : r .runs ≡ t
-  pub register-now : r .register ≡ registerAt (Enc rounds keys) (Dec rounds keys) mode dir n register (take count (bits input)) t
-  pub out-now : out ≡ pack (joined t (outAt (Enc rounds keys) (Dec rounds keys) mode dir n register (take count (bits input)))) ++ drop (bytesFor (length (joined t (outAt (Enc rounds keys) (Dec rounds keys) mode dir n register (take count (bits input)))))) old
+  pub register-now : r .register ≡ registerAt (Enc rounds keys) (Dec rounds keys) mode dir n m register (take count (bits input)) t
+  pub out-now : out ≡ pack (joined t (outAt (Enc rounds keys) (Dec rounds keys) mode dir n m register (take count (bits input)))) ++ drop (bytesFor (length (joined t (outAt (Enc rounds keys) (Dec rounds keys) mode dir n m register (take count (bits input)))))) old
 
-module _ {mode : Mode} {dir : Direction} {n rounds : ℕ} {keys input : List ℕ} {f : List ℕ → List ℕ} {count : ℕ} {old : List ℕ} (w : Workable mode n input count old) (under : RunsUnder rounds keys mode dir f) {register : List ℕ} (hr : Block register) where
+module _ {mode : Mode} {dir : Direction} {n rounds : ℕ} {keys input : List ℕ} {f : List ℕ → List ℕ} {count : ℕ} {old : List ℕ} (w : Workable mode n input count old) (under : RunsUnder rounds keys mode dir f) (m : ℕ) {register : List ℕ} (hr : Block register) where
   abbrev text : List Bool
   text = take count (bits input)
 
   abbrev become : ℕ → List Bool
-  become = outAt (Enc rounds keys) (Dec rounds keys) mode dir n register text
+  become = outAt (Enc rounds keys) (Dec rounds keys) mode dir n m register text
 
   count-bits : length (take count (bits input)) ≡ count
   count-bits = length-take count (bits input) ∙ min-eq-left (omega (arith, length-bits input, w .within))
@@ -192,13 +192,13 @@ module _ {mode : Mode} {dir : Direction} {n rounds : ℕ} {keys input : List ℕ
   text-taken = taken mode n (take count (bits input)) (w .unit-length) (rw count-bits (w .whole))
 
   become-length : (t : ℕ) → t ≤ unitsIn n count → length (joined t become) ≡ min (t * n) count
-  become-length t h = part-length ciphers dir hr text-taken t (rw count-bits h) ∙ ap (min (t * n)) count-bits
+  become-length t h = part-length ciphers m dir hr text-taken t (rw count-bits h) ∙ ap (min (t * n)) count-bits
 
-  pub none-through : Through mode dir n rounds keys register input count old 0 (record { register = register; runs = 0 }) old
+  pub none-through : Through mode dir n m rounds keys register input count old 0 (record { register = register; runs = 0 }) old
   unfolding registerAt joined pack packTo bytesFor
   none-through = record { runs-now = refl; register-now = refl; out-now = refl }
 
-  pub through-length : (t : ℕ) → t ≤ unitsIn n count → {r : Progress} {out : List ℕ} → Through mode dir n rounds keys register input count old t r out → length out ≡ length old
+  pub through-length : (t : ℕ) → t ≤ unitsIn n count → {r : Progress} {out : List ℕ} → Through mode dir n m rounds keys register input count old t r out → length out ≡ length old
   through-length t h {out = out} s =
       let l : length out ≡ length (pack (joined t become) ++ drop (bytesFor (length (joined t become))) old) = ap length (s .out-now) in
       let m : length (pack (joined t become)) ≡ bytesFor (length (joined t become)) = length-pack (joined t become) in
@@ -209,23 +209,23 @@ module _ {mode : Mode} {dir : Direction} {n rounds : ℕ} {keys input : List ℕ
   still-workable e =
       record { unit-length = w .unit-length; whole = w .whole; within = w .within; small = w .small; room = rw e (w .room) }
 
-  pub one-through : (t : ℕ) → t < unitsIn n count → {r unit : Progress} {out after : List ℕ} → Through mode dir n rounds keys register input count old t r out
-      → UnitWorked f mode dir n (r .register) input count out t unit after
-      → Through mode dir n rounds keys register input count old (suc t) (record { register = unit .register; runs = r .runs + unit .runs }) after
+  pub one-through : (t : ℕ) → t < unitsIn n count → {r unit : Progress} {out after : List ℕ} → Through mode dir n m rounds keys register input count old t r out
+      → UnitWorked f mode dir n m (r .register) input count out t unit after
+      → Through mode dir n m rounds keys register input count old (suc t) (record { register = unit .register; runs = r .runs + unit .runs }) after
   unfolding registerAt joined outAt
   one-through t h {out = out} s u =
       let at : length (joined t become) ≡ t * n = become-length t (omega arith) ∙ min-eq-left (omega (arith, unit-there count t (unit-bounds mode n (w .unit-length) .0) .0 h)) in
-      let block = registers-block ciphers dir hr text-taken t (rw count-bits (omega arith)) in
+      let block = registers-block ciphers m dir hr text-taken t (rw count-bits (omega arith)) in
       let size = unit-taken w h in
       let now = s .register-now in
       record {
         runs-now = omega (arith, s .runs-now, u .one-run);
-        register-now = u .register-after ∙ ap (λ r. nextOf f f mode dir r (unitAt n text t)) now ∙ next-same block (unitAt n text t) mode dir (under .runs) size;
+        register-now = u .register-after ∙ ap (λ r. nextOf f f mode dir m r (unitAt n text t)) now ∙ next-same block (unitAt n text t) mode dir m (under .runs) size;
         out-now = put-next (joined t become) (become t) old (t * n) at (s .out-now)
             (u .out-after ∙ ap (putBits out (t * n)) (ap (λ r. outOf f f mode dir r (unitAt n text t)) now ∙ out-same block (unitAt n text t) mode dir (under .runs) size));
       }
 
-  pub all-through : {r : Progress} {out : List ℕ} → Through mode dir n rounds keys register input count old (unitsIn n count) r out → Worked mode dir n rounds keys register input count old r out
+  pub all-through : {r : Progress} {out : List ℕ} → Through mode dir n m rounds keys register input count old (unitsIn n count) r out → Worked mode dir n m rounds keys register input count old r out
   unfolding worked
   all-through s =
       let all : length (joined (unitsIn n count) become) ≡ count = become-length (unitsIn n count) (le-refl (unitsIn n count)) ∙ min-eq-right (units-cover count (unit-bounds mode n (w .unit-length) .0)) in

@@ -4,3 +4,4 @@ pub mod Works
 pub mod Machine
 pub mod Lists
 pub mod Promises
+pub mod Counters

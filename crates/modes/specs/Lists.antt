@@ -1,14 +1,15 @@
 -- Lists of calls: each is a feed on the session that the one before returned, with its own input and output, and each step is
 -- the feed's own `ensures` clause. So what is shown of a list is shown of the code.
-use Prim.Native.Nat.{ℕ, _+_}
+use Prim.Native.Nat.{ℕ, zero, suc, _+_}
 use mathlib.Core.Bool.{Bool, cond}
 use mathlib.Core.List.{List, [], _∷_, _++_}
 use lib.Dec.{eqb}
 use lib.ListN.{length, take, drop}
 use Rattle.bits.specs.Texts.{bits}
+use Rattle.rules.specs.Rules.{unitsIn}
 use Rattle.modes.specs.declared.session.Session.{Session}
 use Rattle.modes.specs.declared.session.Fed.{Fed}
-use Rattle.modes.specs.Sessions.{FedBy}
+use Rattle.modes.specs.Sessions.{FedBy, sessionRegister}
 use Rattle.modes.specs.Machine.{Opening, Machine, machineStart, machineFeed, feedRegisters}
 
 -- One feed: what it was handed, what it returned, and the output afterwards.
@@ -49,7 +50,22 @@ unfoldable pub allRuns : List Call → ℕ
 allRuns [] = 0
 allRuns (c ∷ cs) = c .result .runs + allRuns cs
 
--- The plain machine after the same list.
+-- ---- registers
+
+-- f 0, f 1, .. f (k - 1).
+unfoldable pub along : {A : Type 0} → ℕ → (ℕ → A) → List A
+along zero f = []
+along (suc k) f = f 0 ∷ along k (λ t. f (suc t))
+
+-- R before each unit that the calls worked, in order, from the session s on. In CTR these are the counter blocks that they used.
+unfoldable pub registersUsed : Session → List Call → List (List ℕ)
+registersUsed s [] = []
+registersUsed s (c ∷ cs) =
+    along (unitsIn (s .n) (length (fedBits c))) (sessionRegister s (fedBits c)) ++ registersUsed (c .result .session) cs
+
+-- ---- the plain machine
+
+-- It after the same list.
 unfoldable pub machineAfter : Machine → List Call → Machine
 machineAfter m [] = m
 machineAfter m (c ∷ cs) = machineAfter (machineFeed m (c .input) (c .count) (length (c .out)) (c .place)) cs

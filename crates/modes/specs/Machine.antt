@@ -15,6 +15,7 @@ use Rattle.questions.specs.Questions.{ask, feedQuestions}
 pub record Opening : Type 0 where
   pub mode : Mode
   pub n : ℕ
+  pub m : ℕ
   pub key : List ℕ
   pub iv : List ℕ
 
@@ -37,7 +38,7 @@ machineUnit m c =
     let o = m .opening in
     record {
       opening = o;
-      register = next (encrypted (o .key)) (decrypted (o .key)) (o .mode) (m .register) c;
+      register = next (encrypted (o .key)) (decrypted (o .key)) (o .mode) (o .m) (m .register) c;
       units = m .units + 1;
       closed = cond (ltb (length c) (o .n)) true (m .closed);
       ciphertext = m .ciphertext ++ c;
@@ -52,7 +53,7 @@ machineUnits (suc k) m x = machineUnits k (machineUnit m (take (m .opening .n) x
 -- The number that it answers to a feed: the feed's questions, of the arguments and of what it holds.
 unfoldable pub machineNumber : Machine → ℕ → ℕ → ℕ → ℕ → ℕ
 machineNumber m bytes count size place =
-    ask (feedQuestions (m .opening .mode) (keyRounds (m .opening .key)) (m .opening .n) (m .closed) (m .units) bytes count size place)
+    ask (feedQuestions (m .opening .mode) (keyRounds (m .opening .key)) (m .opening .n) (m .opening .m) (m .closed) (m .units) bytes count size place)
 
 -- A feed: at a 'no' it keeps all it holds, otherwise it takes the feed's bits unit by unit.
 unfoldable pub machineFeed : Machine → List ℕ → ℕ → ℕ → ℕ → Machine

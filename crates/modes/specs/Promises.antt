@@ -9,7 +9,7 @@ use Rattle.bits.specs.Texts.{bits, bytesFor}
 use Rattle.bits.specs.Blocks.{Bytes}
 use Rattle.aes.specs.Calls.{encrypted, decrypted}
 use Rattle.rules.specs.declared.Mode.{Mode}
-use Rattle.rules.specs.declared.Mode.the-variants.{Ecb, Cbc, Cfb}
+use Rattle.rules.specs.declared.Mode.the-variants.{Ecb, Cbc, Cfb, Ctr}
 use Rattle.rules.specs.declared.Direction.{Direction}
 use Rattle.rules.specs.declared.Direction.the-variants.{Decrypt}
 use Rattle.rules.specs.Rules.{unitAt, unitsIn}
@@ -48,7 +48,7 @@ AcceptedExact =
 -- A refused opening gives the refused session.
 unfoldable pub RefusedOpening : Type 0
 RefusedOpening =
-    (mode : Mode) (dir : Direction) (n : ℕ) (key iv : List ℕ) (r : Opened) → OpenedBy mode dir n key iv r → (r .number ≡ 0 → ⊥)
+    (mode : Mode) (dir : Direction) (n m : ℕ) (key iv : List ℕ) (r : Opened) → OpenedBy mode dir n m key iv r → (r .number ≡ 0 → ⊥)
     → r .session ≡ refusedSession
 
 -- A feed of 0 bits changes nothing.
@@ -66,21 +66,21 @@ ClosesAfterShort =
 -- ---- Demand 2
 
 -- A list of feeds on an opened session, in either direction and whatever the cuts.
-pub record TextOf (mode : Mode) (dir : Direction) (n : ℕ) (key iv : List ℕ) (calls : List Call) (t : Session) : Type 0 where
-  pub standard-text : allWritten calls ≡ standard (encrypted key) (decrypted key) mode dir n iv (allFed calls)
+pub record TextOf (mode : Mode) (dir : Direction) (n m : ℕ) (key iv : List ℕ) (calls : List Call) (t : Session) : Type 0 where
+  pub standard-text : allWritten calls ≡ standard (encrypted key) (decrypted key) mode dir n m iv (allFed calls)
   pub units : t .units ≡ unitsIn n (length (allFed calls))
 
 unfoldable pub DemandTwo : Type 0
 DemandTwo =
-    (mode : Mode) (dir : Direction) (n : ℕ) (key iv : List ℕ) (r : Opened) (calls : List Call) (t : Session)
-    → Bytes key → Bytes iv → OpenedBy mode dir n key iv r → r .number ≡ 0 → Run (r .session) calls t
-    → TextOf mode dir n key iv calls t
+    (mode : Mode) (dir : Direction) (n m : ℕ) (key iv : List ℕ) (r : Opened) (calls : List Call) (t : Session)
+    → Bytes key → Bytes iv → OpenedBy mode dir n m key iv r → r .number ≡ 0 → Run (r .session) calls t
+    → TextOf mode dir n m key iv calls t
 
 -- Two sessions opened alike but for direction undo each other, each list cut in its own way.
 unfoldable pub UndoneByTheOther : Type 0
 UndoneByTheOther =
-    (mode : Mode) (dir : Direction) (n : ℕ) (key iv : List ℕ) (r q : Opened) (calls back : List Call) (t u : Session)
-    → Bytes key → Bytes iv → OpenedBy mode dir n key iv r → r .number ≡ 0 → OpenedBy mode (other dir) n key iv q → q .number ≡ 0
+    (mode : Mode) (dir : Direction) (n m : ℕ) (key iv : List ℕ) (r q : Opened) (calls back : List Call) (t u : Session)
+    → Bytes key → Bytes iv → OpenedBy mode dir n m key iv r → r .number ≡ 0 → OpenedBy mode (other dir) n m key iv q → q .number ≡ 0
     → Run (r .session) calls t → Run (q .session) back u → allFed back ≡ allWritten calls → allWritten back ≡ allFed calls
 
 -- ---- Request 01
@@ -116,14 +116,14 @@ pub record Followed (o : Opening) (calls : List Call) : Type 0 where
   pub plaintext : machineAfter (machineStart o) calls .plaintext ≡ allWritten calls
   pub counted : length (registers o calls) ≡ suc (machineAfter (machineStart o) calls .units)
 
--- The one claim over two lists of decrypting feeds with equal mode, key and n. x and y are their ciphertexts, p and q their
--- plaintexts.
-module _ (mode : Mode) (n : ℕ) (key v w : List ℕ) (calls others : List Call) where
+-- The one claim over two lists of decrypting feeds with equal mode, key and n, each with its own m. x and y are their ciphertexts, p
+-- and q their plaintexts.
+module _ (mode : Mode) (n m m′ : ℕ) (key v w : List ℕ) (calls others : List Call) where
   abbrev first : Opening
-  first = record { mode = mode; n = n; key = key; iv = v }
+  first = record { mode = mode; n = n; m = m; key = key; iv = v }
 
   abbrev second : Opening
-  second = record { mode = mode; n = n; key = key; iv = w }
+  second = record { mode = mode; n = n; m = m′; key = key; iv = w }
 
   abbrev x : List Bool
   x = allFed calls
@@ -144,14 +144,15 @@ module _ (mode : Mode) (n : ℕ) (key v w : List ℕ) (calls others : List Call)
     -- recovery after loss: for every common run, wherever it begins, plaintext units and the machines' registers
     pub run-plain : recovers mode ≡ true → (i j k : ℕ) → CommonRun n x y i j k → (t : ℕ) → recoveryUnits mode n ≤ t → t < k → unitAt n p (i + t) ≡ unitAt n q (j + t)
     pub run-registers : recovers mode ≡ true → (i j k : ℕ) → CommonRun n x y i j k → (t : ℕ) → recoveryUnits mode n ≤ t → t ≤ k → getD (registers first calls) (i + t) [] ≡ getD (registers second others) (j + t) []
-    -- reach of damage: one changed block in ECB and in CBC, one changed segment in CFB; in OFB and CTR exactly the changed bits
+    -- reach of damage: one changed block in ECB and in CBC, one changed segment in CFB; in OFB and CTR exactly the changed bits, in
+    -- CTR where m is the same
     pub one-block-ecb : mode ≡ Ecb → (j : ℕ) → OneBlockChanged x y j → OnlyBlockDamaged p q j
     pub one-block : mode ≡ Cbc → v ≡ w → (j : ℕ) → OneBlockChanged x y j → OneBlockDamaged x y p q j
     pub one-segment : mode ≡ Cfb → v ≡ w → (j : ℕ) → OneUnitChanged n x y j → OneSegmentDamaged n x y p q j
-    pub same-bits : recovers mode ≡ false → v ≡ w → length x ≡ length y → (b : ℕ) → Differ p q b ↔ Differ x y b
+    pub same-bits : recovers mode ≡ false → v ≡ w → (mode ≡ Ctr → m ≡ m′) → length x ≡ length y → (b : ℕ) → Differ p q b ↔ Differ x y b
 
 unfoldable pub DemandThree : Type 0
 DemandThree =
-    (mode : Mode) (n : ℕ) (key v w : List ℕ) (r q : Opened) (calls others : List Call) (t u : Session)
-    → Bytes key → Bytes v → Bytes w → OpenedBy mode Decrypt n key v r → r .number ≡ 0 → OpenedBy mode Decrypt n key w q → q .number ≡ 0
-    → Run (r .session) calls t → Run (q .session) others u → Recovered mode n key v w calls others
+    (mode : Mode) (n m m′ : ℕ) (key v w : List ℕ) (r q : Opened) (calls others : List Call) (t u : Session)
+    → Bytes key → Bytes v → Bytes w → OpenedBy mode Decrypt n m key v r → r .number ≡ 0 → OpenedBy mode Decrypt n m′ key w q → q .number ≡ 0
+    → Run (r .session) calls t → Run (q .session) others u → Recovered mode n m m′ key v w calls others

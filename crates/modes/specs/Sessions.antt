@@ -27,21 +27,21 @@ pub record Arrays (s : Session) : Type 0 where
 
 -- ---- open
 
-unfoldable pub openNumber : Mode → ℕ → List ℕ → List ℕ → ℕ
-openNumber mode n key iv = ask (openQuestions mode n key iv)
+unfoldable pub openNumber : Mode → ℕ → ℕ → List ℕ → List ℕ → ℕ
+openNumber mode n m key iv = ask (openQuestions mode n m key iv)
 
--- A refused opening: a closed ECB encrypting session with n, rounds, units and all bytes 0.
+-- A refused opening: a closed ECB encrypting session with n, m, rounds, units and all bytes 0.
 unfoldable pub refusedSession : Session
 refusedSession =
-    record { mode = Ecb; direction = Encrypt; n = 0; rounds = 0; keys = replicate 240 0; register = replicate 16 0; units = 0; closed = true }
+    record { mode = Ecb; direction = Encrypt; n = 0; m = 0; rounds = 0; keys = replicate 240 0; register = replicate 16 0; units = 0; closed = true }
 
-unfoldable pub openedSession : Mode → Direction → ℕ → List ℕ → List ℕ → Session
-openedSession mode dir n key iv =
-    record { mode = mode; direction = dir; n = n; rounds = keyRounds key; keys = keyBytes key; register = start mode iv; units = 0; closed = false }
+unfoldable pub openedSession : Mode → Direction → ℕ → ℕ → List ℕ → List ℕ → Session
+openedSession mode dir n m key iv =
+    record { mode = mode; direction = dir; n = n; m = m; rounds = keyRounds key; keys = keyBytes key; register = start mode iv; units = 0; closed = false }
 
-pub record OpenedBy (mode : Mode) (dir : Direction) (n : ℕ) (key iv : List ℕ) (r : Opened) : Type 0 where
-  pub answer : r .number ≡ openNumber mode n key iv
-  pub opened : r .session ≡ cond (eqb (openNumber mode n key iv) 0) (openedSession mode dir n key iv) refusedSession
+pub record OpenedBy (mode : Mode) (dir : Direction) (n m : ℕ) (key iv : List ℕ) (r : Opened) : Type 0 where
+  pub answer : r .number ≡ openNumber mode n m key iv
+  pub opened : r .session ≡ cond (eqb (openNumber mode n m key iv) 0) (openedSession mode dir n m key iv) refusedSession
 
 -- ---- feed
 
@@ -51,13 +51,13 @@ fedText input count = take count (bits input)
 
 -- What a session makes of a text, and its register after so many units of it.
 unfoldable pub sessionText : Session → List Bool → List Bool
-sessionText s x = worked (Enc (s .rounds) (s .keys)) (Dec (s .rounds) (s .keys)) (s .mode) (s .direction) (s .n) (s .register) x
+sessionText s x = worked (Enc (s .rounds) (s .keys)) (Dec (s .rounds) (s .keys)) (s .mode) (s .direction) (s .n) (s .m) (s .register) x
 
 unfoldable pub sessionRegister : Session → List Bool → ℕ → List ℕ
-sessionRegister s x t = registerAt (Enc (s .rounds) (s .keys)) (Dec (s .rounds) (s .keys)) (s .mode) (s .direction) (s .n) (s .register) x t
+sessionRegister s x t = registerAt (Enc (s .rounds) (s .keys)) (Dec (s .rounds) (s .keys)) (s .mode) (s .direction) (s .n) (s .m) (s .register) x t
 
 unfoldable pub feedNumber : Session → ℕ → ℕ → ℕ → ℕ → ℕ
-feedNumber s bytes count size place = ask (feedQuestions (s .mode) (s .rounds) (s .n) (s .closed) (s .units) bytes count size place)
+feedNumber s bytes count size place = ask (feedQuestions (s .mode) (s .rounds) (s .n) (s .m) (s .closed) (s .units) bytes count size place)
 
 -- The session after an accepted feed of x: the register moved by its units, the units counted, closed by a short one.
 unfoldable pub fedSession : Session → List Bool → Session
@@ -66,6 +66,7 @@ fedSession s x =
       mode = s .mode;
       direction = s .direction;
       n = s .n;
+      m = s .m;
       rounds = s .rounds;
       keys = s .keys;
       register = sessionRegister s x (unitsIn (s .n) (length x));

@@ -29,13 +29,13 @@ pub record RunsUnder (rounds : ℕ) (keys : List ℕ) (mode : Mode) (dir : Direc
   pub runs : Runs f (Enc rounds keys) (Dec rounds keys) mode dir
 
 -- Unit t by the block function f, in one run, from the register before it.
-pub record UnitWorked (f : List ℕ → List ℕ) (mode : Mode) (dir : Direction) (n : ℕ) (register input : List ℕ) (count : ℕ) (out : List ℕ) (t : ℕ) (r : Progress) (after : List ℕ) : Type 0 where
-  pub register-after : r .register ≡ nextOf f f mode dir register (unitAt n (take count (bits input)) t)
+pub record UnitWorked (f : List ℕ → List ℕ) (mode : Mode) (dir : Direction) (n m : ℕ) (register input : List ℕ) (count : ℕ) (out : List ℕ) (t : ℕ) (r : Progress) (after : List ℕ) : Type 0 where
+  pub register-after : r .register ≡ nextOf f f mode dir m register (unitAt n (take count (bits input)) t)
   pub out-after : after ≡ putBits out (t * n) (outOf f f mode dir register (unitAt n (take count (bits input)) t))
   pub one-run : r .runs ≡ 1
 
 -- All units, in a run each.
-pub record Worked (mode : Mode) (dir : Direction) (n rounds : ℕ) (keys register input : List ℕ) (count : ℕ) (out : List ℕ) (r : Progress) (after : List ℕ) : Type 0 where
-  pub register-after : r .register ≡ registerAt (Enc rounds keys) (Dec rounds keys) mode dir n register (take count (bits input)) (unitsIn n count)
-  pub out-after : after ≡ pack (worked (Enc rounds keys) (Dec rounds keys) mode dir n register (take count (bits input))) ++ drop (bytesFor count) out
+pub record Worked (mode : Mode) (dir : Direction) (n m rounds : ℕ) (keys register input : List ℕ) (count : ℕ) (out : List ℕ) (r : Progress) (after : List ℕ) : Type 0 where
+  pub register-after : r .register ≡ registerAt (Enc rounds keys) (Dec rounds keys) mode dir n m register (take count (bits input)) (unitsIn n count)
+  pub out-after : after ≡ pack (worked (Enc rounds keys) (Dec rounds keys) mode dir n m register (take count (bits input))) ++ drop (bytesFor count) out
   pub all-runs : r .runs ≡ unitsIn n count

@@ -5,11 +5,12 @@ use rules::Mode;
 ghost use mathlib.Core.Path.{_≡_};
 ghost use Rattle.modes.specs.Sessions.{OpenedBy, FedBy, refusedSession};
 
-// A session, as document 01 lists it. `n` is the unit's bits, `register` is R.
+// A session, as document 01 lists it, and m. `n` is the unit's bits, `m` those of the counter, `register` is R.
 pub struct Session {
     pub mode: Mode,
     pub direction: Direction,
     pub n: usize,
+    pub m: usize,
     pub rounds: usize,
     pub keys: [u8; 240],
     pub register: [u8; 16],
@@ -48,6 +49,7 @@ impl Session {
             mode: Mode::Ecb,
             direction: Direction::Encrypt,
             n: 0,
+            m: 0,
             rounds: 0,
             keys: [0; 240],
             register: [0; 16],
@@ -56,8 +58,23 @@ impl Session {
         }
     }
 
+    // The whole block counts in CTR.
     pub fn open(mode: Mode, direction: Direction, n: usize, key: &[u8], iv: &[u8]) -> Opened
-        ensures { λ r. ⌜ OpenedBy mode direction n (now (key .entry)) (now (iv .entry)) r ⌝ }
+        ensures { λ r. ⌜ OpenedBy mode direction n 128 (now (key .entry)) (now (iv .entry)) r ⌝ }
+    {
+        Session::open_counter(mode, direction, n, questions::BLOCK_BITS, key, iv)
+    }
+
+    // The lowest m bits of the block count in CTR.
+    pub fn open_counter(
+        mode: Mode,
+        direction: Direction,
+        n: usize,
+        m: usize,
+        key: &[u8],
+        iv: &[u8],
+    ) -> Opened
+        ensures { λ r. ⌜ OpenedBy mode direction n m (now (key .entry)) (now (iv .entry)) r ⌝ }
     {
         let schedule = aes::expand(key);
         if schedule.number != 0 {
@@ -78,6 +95,12 @@ impl Session {
                 session: Session::refused(),
             };
         }
+        if !rules::counter_length_ok(mode, m) {
+            return Opened {
+                number: 14,
+                session: Session::refused(),
+            };
+        }
         // The IV, and zero bytes where there is none.
         let register = bits::window(iv, 0, questions::BLOCK_BITS);
         let keys = schedule.keys;
@@ -86,6 +109,7 @@ impl Session {
             mode,
             direction,
             n,
+            m,
             rounds: schedule.rounds,
             keys,
             register,
@@ -105,6 +129,7 @@ impl Session {
             mode,
             self.rounds,
             self.n,
+            self.m,
             self.closed,
             self.units,
             input.len(),
@@ -121,6 +146,7 @@ impl Session {
         }
         let keys = self.keys;
         let n = self.n;
+        let m = self.m;
         let worked = work::work(self, input, bits, &mut out[place..]);
         let next = worked.register;
         let done = self.units + questions::units_in(n, bits) as u32;
@@ -129,6 +155,7 @@ impl Session {
             mode,
             direction,
             n,
+            m,
             rounds: self.rounds,
             keys,
             register: next,

@@ -27,6 +27,7 @@ fn work_unit(
     mode: Mode,
     direction: Direction,
     n: usize,
+    m: usize,
     dec: bool,
     rounds: usize,
     table: &[u32; 1024],
@@ -39,7 +40,7 @@ fn work_unit(
     t: usize,
 ) -> Progress
     requires { ⌜ Workable mode n (now input) bits (now out) × (t < unitsIn n bits) ⌝ }
-    ensures { λ r. ⌜ UnitWorked (blockBy dec rounds (now (table .entry)) (now (last .entry)) (now (words .entry))) mode direction n register (now (input .entry)) bits (now (out .entry)) t r (now (out .exit)) ⌝ }
+    ensures { λ r. ⌜ UnitWorked (blockBy dec rounds (now (table .entry)) (now (last .entry)) (now (words .entry))) mode direction n m register (now (input .entry)) bits (now (out .entry)) t r (now (out .exit)) ⌝ }
 {
     let at = t * n;
     let size = smaller(n, bits - at);
@@ -56,6 +57,7 @@ fn work_unit(
         &input[a..],
         at % 8,
         size,
+        m,
     );
     let text = step.out;
     bits::put_bits(out, at, text, size);
@@ -78,7 +80,7 @@ fn work_units<'a>(
     out: &mut [u8],
 ) -> Progress
     requires { ⌜ Workable (session .mode) (session .n) (now input) bits (now out) × RunsUnder (session .rounds) (session .keys) (session .mode) (session .direction) (blockBy dec (session .rounds) (now table) (now last) (now words)) ⌝ }
-    ensures { λ r. ⌜ Worked (session .mode) (session .direction) (session .n) (session .rounds) (session .keys) (session .register) (now (input .entry)) bits (now (out .entry)) r (now (out .exit)) ⌝ }
+    ensures { λ r. ⌜ Worked (session .mode) (session .direction) (session .n) (session .m) (session .rounds) (session .keys) (session .register) (now (input .entry)) bits (now (out .entry)) r (now (out .exit)) ⌝ }
 {
     let mode = session.mode;
     let direction = session.direction;
@@ -95,6 +97,7 @@ fn work_units<'a>(
             mode,
             direction,
             session.n,
+            session.m,
             dec,
             session.rounds,
             table,
@@ -121,7 +124,7 @@ fn work_units<'a>(
 // after them, with the runs of the block function. What that needs is prepared once.
 pub fn work(session: Session, input: &[u8], bits: usize, out: &mut [u8]) -> Progress
     requires { ⌜ Workable (session .mode) (session .n) (now input) bits (now out) × (roundsOk (session .rounds) ≡ true) ⌝ }
-    ensures { λ r. ⌜ Worked (session .mode) (session .direction) (session .n) (session .rounds) (session .keys) (session .register) (now (input .entry)) bits (now (out .entry)) r (now (out .exit)) ⌝ }
+    ensures { λ r. ⌜ Worked (session .mode) (session .direction) (session .n) (session .m) (session .rounds) (session .keys) (session .register) (now (input .entry)) bits (now (out .entry)) r (now (out .exit)) ⌝ }
 {
     let mode = session.mode;
     let direction = session.direction;

@@ -1,18 +1,19 @@
 -- What the first 'no' tells: the number is its own, and at 0 every question was answered 'yes'. Assumes nothing.
-use Prim.Native.Nat.{ℕ, _+_, _-_, _*_, _≤_, _<_}
+use Prim.Native.Nat.{ℕ, _+_, _-_, _*_, _^_, _≤_, _<_}
 use mathlib.Core.Path.{_≡_, refl}
 use mathlib.Core.Bool.{Bool, true, false, cond, _&&_}
 use mathlib.Core.List.{List, [], _∷_}
+use native.Mathlib.Nat.{pow-le-pow-right, zero-lt-suc}
 use native.Mathlib.Omega.{arith}
-use borrow.Author.Tests.{leb-true, not-true}
+use borrow.Author.Tests.{leb-true, le-leb, not-true}
 use lib.Dec.{leb}
 use Rattle.bits.specs.Texts.{bytesFor}
 use Rattle.cipher.specs.Cipher.{roundsOk}
 use Rattle.aes.specs.Calls.{keyOk}
 use Rattle.rules.specs.declared.Mode.{Mode}
-use Rattle.rules.specs.Lengths.{unitLengthOk, wholeUnits}
+use Rattle.rules.specs.Lengths.{unitLengthOk, counterLengthOk, wholeUnits}
 use Rattle.rules.specs.Rules.{unitsIn}
-use Rattle.questions.specs.Questions.{Question, ask, ivOk, sessionOk, bitsOk, roomOk, unitsOk, maxBits, maxUnits, openQuestions, feedQuestions}
+use Rattle.questions.specs.Questions.{Question, ask, ivOk, sessionOk, bitsOk, roomOk, unitsOk, countersOk, maxBits, maxUnits, openQuestions, feedQuestions}
 use Rattle.questions.specs.Promises.{FirstNo, all-yes, here, later, NumberIsFirstNo}
 
 pub number-first-no : NumberIsFirstNo
@@ -40,13 +41,13 @@ both-true false b h = (h, cc)
 
 -- ---- single answers
 
-pub session-rounds : (mode : Mode) (rounds n : ℕ) → sessionOk mode rounds n ≡ true → roundsOk rounds ≡ true
+pub session-good : (mode : Mode) (rounds n m : ℕ) → sessionOk mode rounds n m ≡ true
+    → (roundsOk rounds ≡ true) × (unitLengthOk mode n ≡ true) × (counterLengthOk mode m ≡ true)
 unfolding sessionOk
-session-rounds mode rounds n e = both-true (roundsOk rounds) (unitLengthOk mode n) e .0
-
-pub session-unit : (mode : Mode) (rounds n : ℕ) → sessionOk mode rounds n ≡ true → unitLengthOk mode n ≡ true
-unfolding sessionOk
-session-unit mode rounds n e = both-true (roundsOk rounds) (unitLengthOk mode n) e .1
+session-good mode rounds n m e =
+    let (first, counter) = both-true (roundsOk rounds && unitLengthOk mode n) (counterLengthOk mode m) e in
+    let (rounds-good, unit) = both-true (roundsOk rounds) (unitLengthOk mode n) first in
+    (rounds-good, unit, counter)
 
 pub bits-small : (limit bytes count : ℕ) → bitsOk limit bytes count ≡ true → count ≤ limit
 unfolding bitsOk
@@ -64,26 +65,37 @@ pub room-there : (size place bytes : ℕ) → roomOk size place bytes ≡ true �
 unfolding roomOk
 room-there size place bytes e = leb-true bytes (size - place) (both-true (leb place size) (leb bytes (size - place)) e .1)
 
+-- From m = 32 on there are more counter blocks than units.
+pub counters-enough : (m done new : ℕ) → 32 ≤ m → unitsOk done new ≡ true → countersOk m done new ≡ true
+unfolding unitsOk countersOk
+counters-enough m done new long few =
+    let units : done + new ≤ maxUnits = leb-true _ _ few in
+    let more : 2 ^ 32 ≤ 2 ^ m = pow-le-pow-right (zero-lt-suc 1) long in
+    le-leb (done + new) (2 ^ m) (omega arith)
+
 -- ---- all answers
 
 -- What an accepted opening was asked.
-pub record OpeningTaken (mode : Mode) (n : ℕ) (key iv : List ℕ) : Type 0 where
+pub record OpeningTaken (mode : Mode) (n m : ℕ) (key iv : List ℕ) : Type 0 where
   pub key-size : keyOk key ≡ true
   pub iv-size : ivOk mode iv ≡ true
   pub unit : unitLengthOk mode n ≡ true
+  pub counter : counterLengthOk mode m ≡ true
 
-pub opening-taken : (mode : Mode) (n : ℕ) (key iv : List ℕ) → ask (openQuestions mode n key iv) ≡ 0 → OpeningTaken mode n key iv
+pub opening-taken : (mode : Mode) (n m : ℕ) (key iv : List ℕ) → ask (openQuestions mode n m key iv) ≡ 0 → OpeningTaken mode n m key iv
 unfolding openQuestions
-opening-taken mode n key iv e1 =
+opening-taken mode n m key iv e1 =
     let (q1, e2) = first-yes _ _ (omega arith) e1 in
     let (q2, e3) = first-yes _ _ (omega arith) e2 in
     let (q3, e4) = first-yes _ _ (omega arith) e3 in
-    record { key-size = q1; iv-size = q2; unit = q3 }
+    let (q14, e5) = first-yes _ _ (omega arith) e4 in
+    record { key-size = q1; iv-size = q2; unit = q3; counter = q14 }
 
 -- What an accepted feed was asked.
-pub record FeedTaken (mode : Mode) (rounds n : ℕ) (closed : Bool) (units bytes count size place : ℕ) : Type 0 where
+pub record FeedTaken (mode : Mode) (rounds n m : ℕ) (closed : Bool) (units bytes count size place : ℕ) : Type 0 where
   pub rounds-good : roundsOk rounds ≡ true
   pub unit : unitLengthOk mode n ≡ true
+  pub counter : counterLengthOk mode m ≡ true
   pub not-closed : closed ≡ false
   pub there : count ≤ 8 * bytes
   pub limit : count ≤ maxBits
@@ -91,20 +103,24 @@ pub record FeedTaken (mode : Mode) (rounds n : ℕ) (closed : Bool) (units bytes
   pub inside : place ≤ size
   pub room : bytesFor count ≤ size - place
   pub counted : units + unitsIn n count ≤ maxUnits
+  pub blocks : units + unitsIn n count ≤ 2 ^ m
 
-pub feed-taken : (mode : Mode) (rounds n : ℕ) (closed : Bool) (units bytes count size place : ℕ)
-    → ask (feedQuestions mode rounds n closed units bytes count size place) ≡ 0 → FeedTaken mode rounds n closed units bytes count size place
-unfolding feedQuestions unitsOk
-feed-taken mode rounds n closed units bytes count size place e4 =
+pub feed-taken : (mode : Mode) (rounds n m : ℕ) (closed : Bool) (units bytes count size place : ℕ)
+    → ask (feedQuestions mode rounds n m closed units bytes count size place) ≡ 0 → FeedTaken mode rounds n m closed units bytes count size place
+unfolding feedQuestions unitsOk countersOk
+feed-taken mode rounds n m closed units bytes count size place e4 =
     let (q4, e5) = first-yes _ _ (omega arith) e4 in
     let (q5, e6) = first-yes _ _ (omega arith) e5 in
     let (q6, e7) = first-yes _ _ (omega arith) e6 in
     let (q7, e8) = first-yes _ _ (omega arith) e7 in
     let (q8, e9) = first-yes _ _ (omega arith) e8 in
-    let (q9, e10) = first-yes _ _ (omega arith) e9 in
+    let (q9, e15) = first-yes _ _ (omega arith) e9 in
+    let (q15, e16) = first-yes _ _ (omega arith) e15 in
+    let good = session-good mode rounds n m q4 in
     record {
-      rounds-good = session-rounds mode rounds n q4;
-      unit = session-unit mode rounds n q4;
+      rounds-good = good .0;
+      unit = good .1;
+      counter = good .2;
       not-closed = not-true closed q5;
       there = bits-there maxBits bytes count q6;
       limit = bits-small maxBits bytes count q6;
@@ -112,4 +128,5 @@ feed-taken mode rounds n closed units bytes count size place e4 =
       inside = room-inside size place (bytesFor count) q8;
       room = room-there size place (bytesFor count) q8;
       counted = leb-true _ _ q9;
+      blocks = leb-true _ _ q15;
     }

@@ -1,6 +1,6 @@
 -- Document 01, "Questions before work": each question is a Bool, each call has its list of them, and the first 'no' gives the
 -- number.
-use Prim.Native.Nat.{ℕ, _+_, _-_, _*_}
+use Prim.Native.Nat.{ℕ, _+_, _-_, _*_, _^_}
 use mathlib.Core.Bool.{Bool, cond, not, _&&_}
 use mathlib.Core.List.{List, [], _∷_}
 use lib.Dec.{leb, eqb}
@@ -10,7 +10,7 @@ use Rattle.cipher.specs.Cipher.{roundsOk}
 use Rattle.aes.specs.Calls.{keyOk}
 use Rattle.rules.specs.declared.Mode.{Mode}
 use Rattle.rules.specs.declared.Mode.the-variants.{Ecb, Cbc, Cfb, Ofb, Ctr}
-use Rattle.rules.specs.Lengths.{unitLengthOk, wholeUnits}
+use Rattle.rules.specs.Lengths.{unitLengthOk, counterLengthOk, wholeUnits}
 use Rattle.rules.specs.Rules.{unitsIn}
 
 -- A question's answer, and the number where it is 'no'.
@@ -43,9 +43,9 @@ ivOk Cfb iv = eqb (length iv) 16
 ivOk Ofb iv = eqb (length iv) 16
 ivOk Ctr iv = eqb (length iv) 16
 
--- 4. Are the session's rounds 10, 12 or 14 and its n as in question 3?
-unfoldable pub sessionOk : Mode → ℕ → ℕ → Bool
-sessionOk mode rounds n = roundsOk rounds && unitLengthOk mode n
+-- 4. Are the session's rounds 10, 12 or 14, its n as in question 3 and its m as in question 14?
+unfoldable pub sessionOk : Mode → ℕ → ℕ → ℕ → Bool
+sessionOk mode rounds n m = roundsOk rounds && unitLengthOk mode n && counterLengthOk mode m
 
 -- 6. Are the bits at most 8 × input bytes and the limit?
 unfoldable pub bitsOk : ℕ → ℕ → ℕ → Bool
@@ -59,15 +59,21 @@ roomOk size place bytes = leb place size && leb bytes (size - place)
 unfoldable pub unitsOk : ℕ → ℕ → Bool
 unitsOk done new = leb (done + new) maxUnits
 
+-- 15. Are units done plus new units at most the counter blocks that m bits have?
+unfoldable pub countersOk : ℕ → ℕ → ℕ → Bool
+countersOk m done new = leb (done + new) (2 ^ m)
+
 -- ---- the calls' lists
 
-unfoldable pub openQuestions : Mode → ℕ → List ℕ → List ℕ → List Question
-openQuestions mode n key iv =
-    record { yes = keyOk key; number = 1 } ∷ record { yes = ivOk mode iv; number = 2 } ∷ record { yes = unitLengthOk mode n; number = 3 } ∷ []
+unfoldable pub openQuestions : Mode → ℕ → ℕ → List ℕ → List ℕ → List Question
+openQuestions mode n m key iv =
+    record { yes = keyOk key; number = 1 } ∷ record { yes = ivOk mode iv; number = 2 }
+    ∷ record { yes = unitLengthOk mode n; number = 3 } ∷ record { yes = counterLengthOk mode m; number = 14 } ∷ []
 
--- Of a feed: the session's mode, rounds, n, closing and units; input bytes, bits, output bytes, place.
-unfoldable pub feedQuestions : Mode → ℕ → ℕ → Bool → ℕ → ℕ → ℕ → ℕ → ℕ → List Question
-feedQuestions mode rounds n closed units bytes bits size place =
-    record { yes = sessionOk mode rounds n; number = 4 } ∷ record { yes = not closed; number = 5 }
+-- Of a feed: the session's mode, rounds, n, m, closing and units; input bytes, bits, output bytes, place.
+unfoldable pub feedQuestions : Mode → ℕ → ℕ → ℕ → Bool → ℕ → ℕ → ℕ → ℕ → ℕ → List Question
+feedQuestions mode rounds n m closed units bytes bits size place =
+    record { yes = sessionOk mode rounds n m; number = 4 } ∷ record { yes = not closed; number = 5 }
     ∷ record { yes = bitsOk maxBits bytes bits; number = 6 } ∷ record { yes = wholeUnits mode n bits; number = 7 }
-    ∷ record { yes = roomOk size place (bytesFor bits); number = 8 } ∷ record { yes = unitsOk units (unitsIn n bits); number = 9 } ∷ []
+    ∷ record { yes = roomOk size place (bytesFor bits); number = 8 } ∷ record { yes = unitsOk units (unitsIn n bits); number = 9 }
+    ∷ record { yes = countersOk m units (unitsIn n bits); number = 15 } ∷ []

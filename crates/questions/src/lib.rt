@@ -1,12 +1,13 @@
 // Document 01, "Questions before work": each function answers one question, or gives the number of a call's first 'no'.
 use rules::Mode;
 ghost use mathlib.Core.Path.{_≡_};
+ghost use mathlib.Core.Bool.{true};
 ghost use Prim.Native.Nat.{_%_};
 ghost use lib.Dec.{eqb};
 ghost use Rattle.bits.specs.Texts.{bytesFor};
 ghost use Rattle.rules.specs.Lengths.{wholeUnits};
 ghost use Rattle.rules.specs.Rules.{unitsIn};
-ghost use Rattle.questions.specs.Questions.{ask, ivOk, sessionOk, bitsOk, roomOk, unitsOk, feedQuestions};
+ghost use Rattle.questions.specs.Questions.{ask, ivOk, sessionOk, bitsOk, roomOk, unitsOk, countersOk, feedQuestions};
 
 // The block, in bytes.
 pub const BLOCK: usize = 16;
@@ -34,14 +35,16 @@ pub fn iv_ok(mode: Mode, iv: &[u8]) -> bool
 }
 
 // Question 4.
-fn session_ok(mode: Mode, rounds: usize, n: usize) -> bool
-    ensures { λ r. ⌜ r ≡ sessionOk mode rounds n ⌝ }
+fn session_ok(mode: Mode, rounds: usize, n: usize, m: usize) -> bool
+    ensures { λ r. ⌜ r ≡ sessionOk mode rounds n m ⌝ }
 {
-    if cipher::rounds_ok(rounds) {
-        rules::unit_length_ok(mode, n)
-    } else {
-        false
+    if !cipher::rounds_ok(rounds) {
+        return false;
     }
+    if !rules::unit_length_ok(mode, n) {
+        return false;
+    }
+    rules::counter_length_ok(mode, m)
 }
 
 // Question 6. The bits are there where their whole bytes are, and one byte more for spare bits.
@@ -98,6 +101,18 @@ fn units_ok(done: u32, new: usize) -> bool
     new <= (MAX_UNITS - done) as usize
 }
 
+// Question 15, of units that question 9 lets pass: they are fewer than 2^32, so 2^m is needed only where it is no more than that.
+fn counters_ok(m: usize, done: u32, new: usize) -> bool
+    requires { ⌜ unitsOk done new ≡ true ⌝ }
+    ensures { λ r. ⌜ r ≡ countersOk m done new ⌝ }
+{
+    if m >= 32 {
+        return true;
+    }
+    let most = 1usize << m;
+    done as usize + new <= most
+}
+
 // How many units so many bits have, a short last one included.
 pub fn units_in(n: usize, bits: usize) -> usize
     ensures { λ r. ⌜ r ≡ unitsIn n bits ⌝ }
@@ -119,11 +134,12 @@ pub fn bytes_for(bits: usize) -> usize
     units_in(8, bits)
 }
 
-// A feed's number, questions 4 to 9 in order.
+// A feed's number, questions 4 to 9 and 15 in order.
 pub fn feed_number(
     mode: Mode,
     rounds: usize,
     n: usize,
+    m: usize,
     closed: bool,
     units: u32,
     bytes: usize,
@@ -131,9 +147,9 @@ pub fn feed_number(
     size: usize,
     place: usize,
 ) -> u8
-    ensures { λ r. ⌜ r ≡ ask (feedQuestions mode rounds n closed units bytes bits size place) ⌝ }
+    ensures { λ r. ⌜ r ≡ ask (feedQuestions mode rounds n m closed units bytes bits size place) ⌝ }
 {
-    if !session_ok(mode, rounds, n) {
+    if !session_ok(mode, rounds, n, m) {
         return 4;
     }
     if closed {
@@ -148,8 +164,12 @@ pub fn feed_number(
     if !room_ok(size, place, bytes_for(bits)) {
         return 8;
     }
-    if !units_ok(units, units_in(n, bits)) {
+    let new = units_in(n, bits);
+    if !units_ok(units, new) {
         return 9;
+    }
+    if !counters_ok(m, units, new) {
+        return 15;
     }
     0
 }

@@ -8,6 +8,7 @@ use crate::words::same;
 
 pub enum Command {
     Open,
+    OpenCounter,
     Feed,
     Forecast,
     Pad,
@@ -33,6 +34,9 @@ fn named(line: &[u8]) -> Command {
     let count = words::count(line);
     if is(name, count, b"open", 6) {
         return Command::Open;
+    }
+    if is(name, count, b"open-counter", 7) {
+        return Command::OpenCounter;
     }
     if is(name, count, b"feed", 6) {
         return Command::Feed;
@@ -90,6 +94,7 @@ pub fn run(
     let end = state.end;
     match named(line) {
         Command::Open => sessions::open(line, text, state),
+        Command::OpenCounter => sessions::open_counter(line, text, state),
         Command::Feed => sessions::feed(line, input, out, text, state),
         Command::Forecast => state.with_end(sessions::forecast(line, text, end)),
         Command::Pad => state.with_end(texts::pad(line, input, out, text, end)),

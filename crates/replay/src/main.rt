@@ -2,7 +2,8 @@
 // transmission is replayed, or a test drives lists of feeds. Bytes are lower-case hexadecimal, `-` for none; numbers are
 // decimal; FILL is the byte that the output holds before the call.
 //
-//     open MODE N E|D KEY IV                         NUMBER
+//     open MODE N E|D KEY IV                         NUMBER, of an opening with M = 128
+//     open-counter MODE N M E|D KEY IV               NUMBER
 //     feed BITS OUTLEN PLACE FILL INPUT              NUMBER OUT R UNITS CLOSED RUNS
 //     forecast MODE N BITS                           NUMBER BYTES RUNS
 //     pad BITS OUTLEN PLACE FILL INPUT               NUMBER LENGTH OUT
@@ -13,7 +14,7 @@
 //     keep                                           kept: `alike` compares with this session from now on
 //     alike                                          yes or no
 //
-// A session that a refused opening gave is there before the first `open` and `keep`. A line of another form prints `?` and
+// A session that a refused opening gave is there before the first opening and `keep`. A line of another form prints `?` and
 // changes nothing; so does one that is too long: INPUT, TEXT and OUTLEN have at most `MAX_BYTES` bytes, and the whole line, without
 // its line feed, `MAX_LINE`. A last line that no line feed ends counts if it is not empty.
 mod arguments;

@@ -1,4 +1,4 @@
-// The commands open, feed and forecast.
+// The commands open, open-counter, feed and forecast.
 use crate::arguments::Output;
 use crate::arguments::TextWords;
 use crate::arguments::text_words;
@@ -19,6 +19,7 @@ use modes::Fed;
 use modes::Session;
 use rules::Direction;
 use rules::Mode;
+ghost use Prim.Native.Nat.{_≤_};
 
 fn bad(state: State, text: &mut [u8; 65536]) -> State {
     state.with_end(print::bad(text, state.end))
@@ -28,6 +29,7 @@ fn open_under(
     mode: Mode,
     direction: Direction,
     n: usize,
+    m: usize,
     key: Short,
     iv: Short,
     text: &mut [u8; 65536],
@@ -35,10 +37,11 @@ fn open_under(
 ) -> State {
     let key_bytes = key.bytes;
     let iv_bytes = iv.bytes;
-    let opened = Session::open(
+    let opened = Session::open_counter(
         mode,
         direction,
         n,
+        m,
         first(&key_bytes, key.count),
         first(&iv_bytes, iv.count),
     );
@@ -47,26 +50,41 @@ fn open_under(
     state.with_session(session, end)
 }
 
-// open MODE N E|D KEY IV
-pub fn open(line: &[u8], text: &mut [u8; 65536], state: State) -> State {
+// Opens with m: MODE N are words 1 and 2, and of E|D KEY IV the first is word k.
+fn open_words(line: &[u8], k: usize, m: usize, text: &mut [u8; 65536], state: State) -> State
+    requires { ⌜ k ≤ 4 ⌝ }
+{
     let ModeWord::Named(mode) = mode_word(word(line, 1)) else {
         return bad(state, text);
     };
     let Number::Value(n) = decimal(word(line, 2)) else {
         return bad(state, text);
     };
-    let DirectionWord::Named(direction) = direction_word(word(line, 3)) else {
+    let DirectionWord::Named(direction) = direction_word(word(line, k)) else {
         return bad(state, text);
     };
-    let key = hex::short_bytes(word(line, 4));
+    let key = hex::short_bytes(word(line, k + 1));
     if !key.good {
         return bad(state, text);
     }
-    let iv = hex::short_bytes(word(line, 5));
+    let iv = hex::short_bytes(word(line, k + 2));
     if !iv.good {
         return bad(state, text);
     }
-    open_under(mode, direction, n, key, iv, text, state)
+    open_under(mode, direction, n, m, key, iv, text, state)
+}
+
+// open MODE N E|D KEY IV
+pub fn open(line: &[u8], text: &mut [u8; 65536], state: State) -> State {
+    open_words(line, 3, 8 * Session::BLOCK, text, state)
+}
+
+// open-counter MODE N M E|D KEY IV
+pub fn open_counter(line: &[u8], text: &mut [u8; 65536], state: State) -> State {
+    let Number::Value(m) = decimal(word(line, 3)) else {
+        return bad(state, text);
+    };
+    open_words(line, 4, m, text, state)
 }
 
 // What a feed gave: its number, the output, the session's R, units and closing, and the runs of the block cipher.

@@ -47,15 +47,15 @@ module _ (enc dec : List ℕ → List ℕ) {r : List ℕ} (block : Block r) wher
   ctr-out Decrypt u = masked u
 
   -- The next input block of CFB, for a segment of n bits.
-  pub cfb-next : (n : ℕ) (c : List Bool) → length c ≡ n → n ≤ 128 → bits (next enc dec Cfb r c) ≡ drop n (bits r) ++ c
+  pub cfb-next : (n m : ℕ) (c : List Bool) → length c ≡ n → n ≤ 128 → bits (next enc dec Cfb m r c) ≡ drop n (bits r) ++ c
   unfolding next shiftIn
-  cfb-next n c l short = block-bits-pack (shiftIn (bits r) c) (shiftIn-block block c (omega arith)) ∙ ap (λ (k : ℕ). drop k (bits r) ++ c) l
+  cfb-next n m c l short = block-bits-pack (shiftIn (bits r) c) (shiftIn-block block c (omega arith)) ∙ ap (λ (k : ℕ). drop k (bits r) ++ c) l
 
   -- The next input block of OFB.
-  pub ofb-next : (dir : Direction) (u : List Bool) → bits (nextOf enc dec Ofb dir r u) ≡ ciph enc dec (bits r)
+  pub ofb-next : (dir : Direction) (m : ℕ) (u : List Bool) → bits (nextOf enc dec Ofb dir m r u) ≡ ciph enc dec (bits r)
   unfolding nextOf next
-  ofb-next Encrypt u = ciph-bits
-  ofb-next Decrypt u = ciph-bits
+  ofb-next Encrypt m u = ciph-bits
+  ofb-next Decrypt m u = ciph-bits
 
 -- ---- sections 6.1 and 6.2: ECB, CBC
 

@@ -7,6 +7,8 @@ pub mod Units
 pub mod Register
 pub mod Taken
 pub mod Undo
+pub mod AnyCounter
+pub mod Counters
 pub mod Standard
 pub mod Texts
 pub mod Recovering

@@ -21,12 +21,12 @@ use Rattle.rules.proofs.Formulas.{cfb-next}
 use Rattle.rules.proofs.Units.{UnitLength, register-block}
 
 -- A register that was a block is one after t units of the lengths that the mode takes.
-pub register-at-block : {enc dec : List ℕ → List ℕ} → BlockCipher enc dec → (mode : Mode) (dir : Direction) (n : ℕ) {r : List ℕ} → Block r → (x : List Bool) (t : ℕ)
-    → ((s : ℕ) → s < t → UnitLength mode (length (unitAt n x s))) → Block (registerAt enc dec mode dir n r x t)
+pub register-at-block : {enc dec : List ℕ → List ℕ} → BlockCipher enc dec → (m : ℕ) (mode : Mode) (dir : Direction) (n : ℕ) {r : List ℕ} → Block r → (x : List Bool) (t : ℕ)
+    → ((s : ℕ) → s < t → UnitLength mode (length (unitAt n x s))) → Block (registerAt enc dec mode dir n m r x t)
 unfolding registerAt
-register-at-block ciphers mode dir n block x zero units = block
-register-at-block ciphers mode dir n block x (suc t) units =
-    register-block ciphers (register-at-block ciphers mode dir n block x t (λ s h. units s (omega arith))) mode dir (unitAt n x t) (units t (omega arith))
+register-at-block ciphers m mode dir n block x zero units = block
+register-at-block ciphers m mode dir n block x (suc t) units =
+    register-block ciphers (register-at-block ciphers m mode dir n block x t (λ s h. units s (omega arith))) mode dir m (unitAt n x t) (units t (omega arith))
 
 -- ---- CFB
 
@@ -36,22 +36,22 @@ shifted-on : (r x : List Bool) (k n : ℕ) → n ≤ length r → k ≤ length x
 shifted-on r x k n h g =
     rw (drop-drop, take-add, ← append-assoc, drop-append-le (k + n) (r ++ take k x) (take n (drop k x)) (simp (length-append, length-take) (omega arith)))
 
-module _ {enc dec : List ℕ → List ℕ} (ciphers : BlockCipher enc dec) {r : List ℕ} (block : Block r) (n : ℕ) (short : n ≤ 128) (x : List Bool) where
-  pub cfb-block : (t : ℕ) → Block (registerAt enc dec Cfb Decrypt n r x t)
+module _ {enc dec : List ℕ → List ℕ} (ciphers : BlockCipher enc dec) (m : ℕ) {r : List ℕ} (block : Block r) (n : ℕ) (short : n ≤ 128) (x : List Bool) where
+  pub cfb-block : (t : ℕ) → Block (registerAt enc dec Cfb Decrypt n m r x t)
   unfolding UnitLength
-  cfb-block t = register-at-block ciphers Cfb Decrypt n block x t (λ s h. omega (arith, unit-short n x s))
+  cfb-block t = register-at-block ciphers m Cfb Decrypt n block x t (λ s h. omega (arith, unit-short n x s))
 
   -- After t segments of n bits of the ciphertext x. (In encryption the register is the same: `same-registers` of Undo.)
-  pub cfb-register : (t : ℕ) → t * n ≤ length x → bits (registerAt enc dec Cfb Decrypt n r x t) ≡ drop (t * n) (bits r ++ take (t * n) x)
+  pub cfb-register : (t : ℕ) → t * n ≤ length x → bits (registerAt enc dec Cfb Decrypt n m r x t) ≡ drop (t * n) (bits r ++ take (t * n) x)
   unfolding registerAt nextOf unitAt
   cfb-register zero h = rw zero-mul (sym (append-nil (bits r)))
   cfb-register (suc t) h =
-      cfb-next enc dec (cfb-block t) n (unitAt n x t) (unit-full x t h) short
+      cfb-next enc dec (cfb-block t) n m (unitAt n x t) (unit-full x t h) short
       ∙ rw (suc-mul, cfb-register t (omega arith)) (shifted-on (bits r) x (t * n) n (omega (arith, bits-block block)) (omega arith))
 
   -- From 128 bits on, nothing of r.
   pub cfb-register-new : (t : ℕ) → t * n ≤ length x → 128 ≤ t * n
-      → bits (registerAt enc dec Cfb Decrypt n r x t) ≡ drop (t * n - 128) (take (t * n) x)
+      → bits (registerAt enc dec Cfb Decrypt n m r x t) ≡ drop (t * n - 128) (take (t * n) x)
   cfb-register-new t h new =
       let from : length (bits r) + (t * n - 128) ≡ t * n = omega (arith, bits-block block) in
       cfb-register t h ∙ ap (λ (k : ℕ). drop k (bits r ++ take (t * n) x)) (sym from) ∙ drop-append-add (bits r) (take (t * n) x) (t * n - 128)

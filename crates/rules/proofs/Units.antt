@@ -50,19 +50,19 @@ mask-undo {b} u h block =
 
 module _ {enc dec : List ℕ → List ℕ} (ciphers : BlockCipher enc dec) {r : List ℕ} (block : Block r) where
   -- what CBC hands to enc, and what it makes of what dec gives
-  chained : (m : List Bool) → length m ≡ 128 → Block (xorBytes (pack m) r)
-  chained m l = xorBytes-block (pack-block m l) block
+  chained : (u : List Bool) → length u ≡ 128 → Block (xorBytes (pack u) r)
+  chained u l = xorBytes-block (pack-block u l) block
 
   unchained : (c : List Bool) → length c ≡ 128 → Block (xorBytes (dec (pack c)) r)
   unchained c l = xorBytes-block (ciphers .dec-block (pack c) (pack-block c l)) block
 
-  pub cipher-length : (mode : Mode) (m : List Bool) → UnitLength mode (length m) → length (cipher enc dec mode r m) ≡ length m
+  pub cipher-length : (mode : Mode) (u : List Bool) → UnitLength mode (length u) → length (cipher enc dec mode r u) ≡ length u
   unfolding cipher next UnitLength
-  cipher-length Ecb m l = bits-block (ciphers .enc-block (pack m) (pack-block m l)) ∙ sym l
-  cipher-length Cbc m l = bits-block (ciphers .enc-block (xorBytes (pack m) r) (chained m l)) ∙ sym l
-  cipher-length Cfb m l = mask-length m l (ciphers .enc-block r block)
-  cipher-length Ofb m l = mask-length m l (ciphers .enc-block r block)
-  cipher-length Ctr m l = mask-length m l (ciphers .enc-block r block)
+  cipher-length Ecb u l = bits-block (ciphers .enc-block (pack u) (pack-block u l)) ∙ sym l
+  cipher-length Cbc u l = bits-block (ciphers .enc-block (xorBytes (pack u) r) (chained u l)) ∙ sym l
+  cipher-length Cfb u l = mask-length u l (ciphers .enc-block r block)
+  cipher-length Ofb u l = mask-length u l (ciphers .enc-block r block)
+  cipher-length Ctr u l = mask-length u l (ciphers .enc-block r block)
 
   pub plain-length : (mode : Mode) (c : List Bool) → UnitLength mode (length c) → length (plain enc dec mode r c) ≡ length c
   unfolding plain next UnitLength
@@ -72,18 +72,18 @@ module _ {enc dec : List ℕ → List ℕ} (ciphers : BlockCipher enc dec) {r : 
   plain-length Ofb c l = mask-length c l (ciphers .enc-block r block)
   plain-length Ctr c l = mask-length c l (ciphers .enc-block r block)
 
-  pub plain-cipher : (mode : Mode) (m : List Bool) → UnitLength mode (length m) → plain enc dec mode r (cipher enc dec mode r m) ≡ m
+  pub plain-cipher : (mode : Mode) (u : List Bool) → UnitLength mode (length u) → plain enc dec mode r (cipher enc dec mode r u) ≡ u
   unfolding cipher plain next UnitLength
-  plain-cipher Ecb m l =
-      let b = pack-block m l in
-      rw (block-pack-bits (ciphers .enc-block (pack m) b), ciphers .dec-enc (pack m) b) (block-bits-pack m l)
-  plain-cipher Cbc m l =
-      let b = chained m l in
-      rw (block-pack-bits (ciphers .enc-block (xorBytes (pack m) r) b), ciphers .dec-enc (xorBytes (pack m) r) b, block-undo (pack-block m l) block)
-      (block-bits-pack m l)
-  plain-cipher Cfb m l = mask-undo m l (ciphers .enc-block r block)
-  plain-cipher Ofb m l = mask-undo m l (ciphers .enc-block r block)
-  plain-cipher Ctr m l = mask-undo m l (ciphers .enc-block r block)
+  plain-cipher Ecb u l =
+      let b = pack-block u l in
+      rw (block-pack-bits (ciphers .enc-block (pack u) b), ciphers .dec-enc (pack u) b) (block-bits-pack u l)
+  plain-cipher Cbc u l =
+      let b = chained u l in
+      rw (block-pack-bits (ciphers .enc-block (xorBytes (pack u) r) b), ciphers .dec-enc (xorBytes (pack u) r) b, block-undo (pack-block u l) block)
+      (block-bits-pack u l)
+  plain-cipher Cfb u l = mask-undo u l (ciphers .enc-block r block)
+  plain-cipher Ofb u l = mask-undo u l (ciphers .enc-block r block)
+  plain-cipher Ctr u l = mask-undo u l (ciphers .enc-block r block)
 
   pub cipher-plain : (mode : Mode) (c : List Bool) → UnitLength mode (length c) → cipher enc dec mode r (plain enc dec mode r c) ≡ c
   unfolding cipher plain next UnitLength
@@ -97,13 +97,13 @@ module _ {enc dec : List ℕ → List ℕ} (ciphers : BlockCipher enc dec) {r : 
   cipher-plain Ofb c l = mask-undo c l (ciphers .enc-block r block)
   cipher-plain Ctr c l = mask-undo c l (ciphers .enc-block r block)
 
-  pub next-block : (mode : Mode) (c : List Bool) → UnitLength mode (length c) → Block (next enc dec mode r c)
+  pub next-block : (mode : Mode) (m : ℕ) (c : List Bool) → UnitLength mode (length c) → Block (next enc dec mode m r c)
   unfolding next UnitLength
-  next-block Ecb c l = block
-  next-block Cbc c l = pack-block c l
-  next-block Cfb c l = pack-block (shiftIn (bits r) c) (shiftIn-block block c l)
-  next-block Ofb c l = ciphers .enc-block r block
-  next-block Ctr c l = increment-block r
+  next-block Ecb m c l = block
+  next-block Cbc m c l = pack-block c l
+  next-block Cfb m c l = pack-block (shiftIn (bits r) c) (shiftIn-block block c l)
+  next-block Ofb m c l = ciphers .enc-block r block
+  next-block Ctr m c l = increment-block m r
 
   -- ---- either direction
 
@@ -118,13 +118,13 @@ module _ {enc dec : List ℕ → List ℕ} (ciphers : BlockCipher enc dec) {r : 
   out-undo mode Encrypt u l = plain-cipher mode u l
   out-undo mode Decrypt u l = cipher-plain mode u l
 
-  pub next-undo : (mode : Mode) (dir : Direction) (u : List Bool) → UnitLength mode (length u)
-      → nextOf enc dec mode (other dir) r (outOf enc dec mode dir r u) ≡ nextOf enc dec mode dir r u
+  pub next-undo : (mode : Mode) (dir : Direction) (m : ℕ) (u : List Bool) → UnitLength mode (length u)
+      → nextOf enc dec mode (other dir) m r (outOf enc dec mode dir r u) ≡ nextOf enc dec mode dir m r u
   unfolding outOf nextOf other
-  next-undo mode Encrypt u l = refl
-  next-undo mode Decrypt u l = ap (next enc dec mode r) (cipher-plain mode u l)
+  next-undo mode Encrypt m u l = refl
+  next-undo mode Decrypt m u l = ap (next enc dec mode m r) (cipher-plain mode u l)
 
-  pub register-block : (mode : Mode) (dir : Direction) (u : List Bool) → UnitLength mode (length u) → Block (nextOf enc dec mode dir r u)
+  pub register-block : (mode : Mode) (dir : Direction) (m : ℕ) (u : List Bool) → UnitLength mode (length u) → Block (nextOf enc dec mode dir m r u)
   unfolding nextOf
-  register-block mode Encrypt u l = next-block mode (cipher enc dec mode r u) (rw (cipher-length mode u l) l)
-  register-block mode Decrypt u l = next-block mode u l
+  register-block mode Encrypt m u l = next-block mode m (cipher enc dec mode r u) (rw (cipher-length mode u l) l)
+  register-block mode Decrypt m u l = next-block mode m u l

@@ -1,4 +1,4 @@
--- Which unit lengths and message lengths a mode takes (document 01, questions 3 and 7).
+-- Which unit lengths, counter lengths and message lengths a mode takes (questions 3, 14 and 7).
 use Prim.Native.Nat.{ℕ, _%_}
 use mathlib.Core.Bool.{Bool, true, _&&_}
 use lib.Dec.{leb, eqb}
@@ -12,6 +12,14 @@ unitLengthOk Cbc n = eqb n 128
 unitLengthOk Cfb n = leb 1 n && leb n 128
 unitLengthOk Ofb n = eqb n 128
 unitLengthOk Ctr n = eqb n 128
+
+-- Question 14: is m from 1 to 128 in CTR, and 128 elsewhere?
+unfoldable pub counterLengthOk : Mode → ℕ → Bool
+counterLengthOk Ecb m = eqb m 128
+counterLengthOk Cbc m = eqb m 128
+counterLengthOk Cfb m = eqb m 128
+counterLengthOk Ofb m = eqb m 128
+counterLengthOk Ctr m = leb 1 m && leb m 128
 
 -- Question 7: are so many bits whole units in ECB, CBC and CFB?
 unfoldable pub wholeUnits : Mode → ℕ → ℕ → Bool

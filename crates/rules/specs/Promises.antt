@@ -7,7 +7,7 @@ use mathlib.Core.List.{List}
 use lib.ListN.{length, getD}
 use Rattle.bits.specs.Blocks.{Block, BlockCipher}
 use Rattle.rules.specs.declared.Mode.{Mode}
-use Rattle.rules.specs.declared.Mode.the-variants.{Ecb, Cbc, Cfb}
+use Rattle.rules.specs.declared.Mode.the-variants.{Ecb, Cbc, Cfb, Ctr}
 use Rattle.rules.specs.declared.Direction.{Direction}
 use Rattle.rules.specs.declared.Direction.the-variants.{Encrypt, Decrypt}
 use Rattle.rules.specs.Lengths.{unitLengthOk, wholeUnits}
@@ -20,12 +20,12 @@ unfoldable pub other : Direction → Direction
 other Encrypt = Decrypt
 other Decrypt = Encrypt
 
-pub record Texts (enc dec : List ℕ → List ℕ) (mode : Mode) (dir : Direction) (n : ℕ) (iv : List ℕ) (x : List Bool) : Type 0 where
-  pub standard-text : worked enc dec mode dir n (start mode iv) x ≡ standard enc dec mode dir n iv x
-  pub same-length : length (worked enc dec mode dir n (start mode iv) x) ≡ length x
-  pub undone : worked enc dec mode (other dir) n (start mode iv) (worked enc dec mode dir n (start mode iv) x) ≡ x
+pub record Texts (enc dec : List ℕ → List ℕ) (mode : Mode) (dir : Direction) (n m : ℕ) (iv : List ℕ) (x : List Bool) : Type 0 where
+  pub standard-text : worked enc dec mode dir n m (start mode iv) x ≡ standard enc dec mode dir n m iv x
+  pub same-length : length (worked enc dec mode dir n m (start mode iv) x) ≡ length x
+  pub undone : worked enc dec mode (other dir) n m (start mode iv) (worked enc dec mode dir n m (start mode iv) x) ≡ x
   -- and both registers are then the same
-  pub same-register : (t : ℕ) → t ≤ unitsIn n (length x) → registerAt enc dec mode (other dir) n (start mode iv) (worked enc dec mode dir n (start mode iv) x) t ≡ registerAt enc dec mode dir n (start mode iv) x t
+  pub same-register : (t : ℕ) → t ≤ unitsIn n (length x) → registerAt enc dec mode (other dir) n m (start mode iv) (worked enc dec mode dir n m (start mode iv) x) t ≡ registerAt enc dec mode dir n m (start mode iv) x t
 
 -- A common run of k units: neighbouring units that are equal one by one, from unit i of x and unit j of y.
 pub record CommonRun (n : ℕ) (x y : List Bool) (i j k : ℕ) : Type 0 where
@@ -65,33 +65,34 @@ pub record OneSegmentDamaged (n : ℕ) (x y p q : List Bool) (j : ℕ) : Type 0 
   pub before : (t : ℕ) → t < j → unitAt n p t ≡ unitAt n q t
   pub behind : (t : ℕ) → suc j + recoveryUnits Cfb n ≤ t → unitAt n p t ≡ unitAt n q t
 
--- Demand 3 for two ciphertexts x and y that were decrypted from the IVs v and w, whatever came before a common run.
-module _ (enc dec : List ℕ → List ℕ) (mode : Mode) (n : ℕ) (v w : List ℕ) (x y : List Bool) where
+-- Demand 3 for two ciphertexts x and y that were decrypted from the IVs v and w, with counters of m and m′ bits, whatever came
+-- before a common run.
+module _ (enc dec : List ℕ → List ℕ) (mode : Mode) (n m m′ : ℕ) (v w : List ℕ) (x y : List Bool) where
   abbrev plainX : List Bool
-  plainX = worked enc dec mode Decrypt n (start mode v) x
+  plainX = worked enc dec mode Decrypt n m (start mode v) x
 
   abbrev plainY : List Bool
-  plainY = worked enc dec mode Decrypt n (start mode w) y
+  plainY = worked enc dec mode Decrypt n m′ (start mode w) y
 
   pub record RecoveryAndDamage : Type 0 where
     -- recovery after loss: plaintext units and registers
     pub run-plain : recovers mode ≡ true → (i j k : ℕ) → CommonRun n x y i j k → (t : ℕ) → recoveryUnits mode n ≤ t → t < k → unitAt n plainX (i + t) ≡ unitAt n plainY (j + t)
-    pub run-registers : recovers mode ≡ true → (i j k : ℕ) → CommonRun n x y i j k → (t : ℕ) → recoveryUnits mode n ≤ t → t ≤ k → registerAt enc dec mode Decrypt n (start mode v) x (i + t) ≡ registerAt enc dec mode Decrypt n (start mode w) y (j + t)
+    pub run-registers : recovers mode ≡ true → (i j k : ℕ) → CommonRun n x y i j k → (t : ℕ) → recoveryUnits mode n ≤ t → t ≤ k → registerAt enc dec mode Decrypt n m (start mode v) x (i + t) ≡ registerAt enc dec mode Decrypt n m′ (start mode w) y (j + t)
     -- reach of damage in ECB, CBC and CFB
     pub one-block-ecb : mode ≡ Ecb → (j : ℕ) → OneBlockChanged x y j → OnlyBlockDamaged plainX plainY j
     pub one-block : mode ≡ Cbc → v ≡ w → (j : ℕ) → OneBlockChanged x y j → OneBlockDamaged x y plainX plainY j
     pub one-segment : mode ≡ Cfb → v ≡ w → (j : ℕ) → OneUnitChanged n x y j → OneSegmentDamaged n x y plainX plainY j
-    -- and in OFB and CTR
-    pub same-bits : recovers mode ≡ false → v ≡ w → length x ≡ length y → (b : ℕ) → Differ plainX plainY b ↔ Differ x y b
+    -- and in OFB and CTR; in CTR where m is the same
+    pub same-bits : recovers mode ≡ false → v ≡ w → (mode ≡ Ctr → m ≡ m′) → length x ≡ length y → (b : ℕ) → Differ plainX plainY b ↔ Differ x y b
 
 -- What is assumed: two block functions that undo each other, a start register of 16 bytes, a unit length and texts that the mode takes.
 unfoldable pub TextsHold : Type 0
 TextsHold =
-    (enc dec : List ℕ → List ℕ) (mode : Mode) (dir : Direction) (n : ℕ) (iv : List ℕ) (x : List Bool) → BlockCipher enc dec
-    → unitLengthOk mode n ≡ true → wholeUnits mode n (length x) ≡ true → Block (start mode iv) → Texts enc dec mode dir n iv x
+    (enc dec : List ℕ → List ℕ) (mode : Mode) (dir : Direction) (n m : ℕ) (iv : List ℕ) (x : List Bool) → BlockCipher enc dec
+    → unitLengthOk mode n ≡ true → wholeUnits mode n (length x) ≡ true → Block (start mode iv) → Texts enc dec mode dir n m iv x
 
 unfoldable pub RecoveryHolds : Type 0
 RecoveryHolds =
-    (enc dec : List ℕ → List ℕ) (mode : Mode) (n : ℕ) (v w : List ℕ) (x y : List Bool) → BlockCipher enc dec
+    (enc dec : List ℕ → List ℕ) (mode : Mode) (n m m′ : ℕ) (v w : List ℕ) (x y : List Bool) → BlockCipher enc dec
     → unitLengthOk mode n ≡ true → wholeUnits mode n (length x) ≡ true → wholeUnits mode n (length y) ≡ true
-    → Block (start mode v) → Block (start mode w) → RecoveryAndDamage enc dec mode n v w x y
+    → Block (start mode v) → Block (start mode w) → RecoveryAndDamage enc dec mode n m m′ v w x y

@@ -29,28 +29,28 @@ start Ofb iv = iv
 start Ctr iv = iv
 
 module _ (enc dec : List ℕ → List ℕ) where
-  -- R after the unit whose ciphertext is C. It moves by the ciphertext, in both directions.
-  unfoldable pub next : Mode → List ℕ → List Bool → List ℕ
-  next Ecb r c = r
-  next Cbc r c = pack c
-  next Cfb r c = pack (shiftIn (bits r) c)
-  next Ofb r c = enc r
-  next Ctr r c = increment r
+  -- R after the unit whose ciphertext is C. It moves by the ciphertext, in both directions. m is the counter's bits in CTR.
+  unfoldable pub next : Mode → ℕ → List ℕ → List Bool → List ℕ
+  next Ecb m r c = r
+  next Cbc m r c = pack c
+  next Cfb m r c = pack (shiftIn (bits r) c)
+  next Ofb m r c = enc r
+  next Ctr m r c = increment m r
 
   -- C from M. OFB moves R first.
   unfoldable pub cipher : Mode → List ℕ → List Bool → List Bool
-  cipher Ecb r m = bits (enc (pack m))
-  cipher Cbc r m = bits (enc (xorBytes (pack m) r))
-  cipher Cfb r m = mask m (enc r)
-  cipher Ofb r m = mask m (next Ofb r m)
-  cipher Ctr r m = mask m (enc r)
+  cipher Ecb r u = bits (enc (pack u))
+  cipher Cbc r u = bits (enc (xorBytes (pack u) r))
+  cipher Cfb r u = mask u (enc r)
+  cipher Ofb r u = mask u (next Ofb 128 r u)
+  cipher Ctr r u = mask u (enc r)
 
   -- M from C.
   unfoldable pub plain : Mode → List ℕ → List Bool → List Bool
   plain Ecb r c = bits (dec (pack c))
   plain Cbc r c = bits (xorBytes (dec (pack c)) r)
   plain Cfb r c = mask c (enc r)
-  plain Ofb r c = mask c (next Ofb r c)
+  plain Ofb r c = mask c (next Ofb 128 r c)
   plain Ctr r c = mask c (enc r)
 
   -- A direction's work on a unit, and the register after it.
@@ -58,9 +58,9 @@ module _ (enc dec : List ℕ → List ℕ) where
   outOf mode Encrypt r u = cipher mode r u
   outOf mode Decrypt r u = plain mode r u
 
-  unfoldable pub nextOf : Mode → Direction → List ℕ → List Bool → List ℕ
-  nextOf mode Encrypt r u = next mode r (cipher mode r u)
-  nextOf mode Decrypt r u = next mode r u
+  unfoldable pub nextOf : Mode → Direction → ℕ → List ℕ → List Bool → List ℕ
+  nextOf mode Encrypt m r u = next mode m r (cipher mode r u)
+  nextOf mode Decrypt m r u = next mode m r u
 
 -- ---- whole texts, unit by unit
 
@@ -77,11 +77,11 @@ unfoldable pub joined : ℕ → (ℕ → List Bool) → List Bool
 joined zero f = []
 joined (suc k) f = joined k f ++ f k
 
-module _ (enc dec : List ℕ → List ℕ) (mode : Mode) (dir : Direction) (n : ℕ) (r : List ℕ) (x : List Bool) where
+module _ (enc dec : List ℕ → List ℕ) (mode : Mode) (dir : Direction) (n m : ℕ) (r : List ℕ) (x : List Bool) where
   -- The register before unit t of the text x, which is the register after t units.
   unfoldable pub registerAt : ℕ → List ℕ
   registerAt zero = r
-  registerAt (suc t) = nextOf enc dec mode dir (registerAt t) (unitAt n x t)
+  registerAt (suc t) = nextOf enc dec mode dir m (registerAt t) (unitAt n x t)
 
   -- What unit t becomes.
   unfoldable pub outAt : ℕ → List Bool

@@ -12,10 +12,10 @@ use Rattle.rules.specs.declared.Direction.{Direction}
 use Rattle.rules.specs.declared.Direction.the-variants.{Encrypt, Decrypt}
 use Rattle.rules.specs.Rules.{msb, unitAt, unitsIn, joined}
 
--- T_j of CTR: the counter block, by the standard incrementing function on all 128 bits.
-unfoldable pub counter : List ℕ → ℕ → List ℕ
-counter t1 zero = t1
-counter t1 (suc j) = increment (counter t1 j)
+-- T_j of CTR: the counter block, by the standard incrementing function on the lowest m bits.
+unfoldable pub counter : ℕ → List ℕ → ℕ → List ℕ
+counter m t1 zero = t1
+counter m t1 (suc j) = increment m (counter m t1 j)
 
 module _ (enc dec : List ℕ → List ℕ) where
   -- CIPH_K and CIPH^-1_K on strings of bits.
@@ -52,18 +52,18 @@ module _ (enc dec : List ℕ → List ℕ) where
 
   -- Block j, or segment j, of the message that the mode makes of the message with blocks `u`. In OFB and CTR a last block of
   -- fewer bits takes as many of the output block's first bits.
-  unfoldable pub standardAt : Mode → Direction → ℕ → List ℕ → (ℕ → List Bool) → ℕ → List Bool
-  standardAt Ecb Encrypt n iv u j = ciph (u j)
-  standardAt Ecb Decrypt n iv u j = ciphInv (u j)
-  standardAt Cbc Encrypt n iv u j = cbcCipher u (bits iv) j
-  standardAt Cbc Decrypt n iv u j = cbcPlain u (bits iv) j
-  standardAt Cfb Encrypt n iv u j = xorBits (u j) (msb n (ciph (cfbEncryptInput n u (bits iv) j)))
-  standardAt Cfb Decrypt n iv u j = xorBits (u j) (msb n (ciph (cfbInput n u (bits iv) j)))
-  standardAt Ofb Encrypt n iv u j = xorBits (u j) (msb (length (u j)) (ofbOutput (bits iv) j))
-  standardAt Ofb Decrypt n iv u j = xorBits (u j) (msb (length (u j)) (ofbOutput (bits iv) j))
-  standardAt Ctr Encrypt n iv u j = xorBits (u j) (msb (length (u j)) (ciph (bits (counter iv j))))
-  standardAt Ctr Decrypt n iv u j = xorBits (u j) (msb (length (u j)) (ciph (bits (counter iv j))))
+  unfoldable pub standardAt : Mode → Direction → ℕ → ℕ → List ℕ → (ℕ → List Bool) → ℕ → List Bool
+  standardAt Ecb Encrypt n m iv u j = ciph (u j)
+  standardAt Ecb Decrypt n m iv u j = ciphInv (u j)
+  standardAt Cbc Encrypt n m iv u j = cbcCipher u (bits iv) j
+  standardAt Cbc Decrypt n m iv u j = cbcPlain u (bits iv) j
+  standardAt Cfb Encrypt n m iv u j = xorBits (u j) (msb n (ciph (cfbEncryptInput n u (bits iv) j)))
+  standardAt Cfb Decrypt n m iv u j = xorBits (u j) (msb n (ciph (cfbInput n u (bits iv) j)))
+  standardAt Ofb Encrypt n m iv u j = xorBits (u j) (msb (length (u j)) (ofbOutput (bits iv) j))
+  standardAt Ofb Decrypt n m iv u j = xorBits (u j) (msb (length (u j)) (ofbOutput (bits iv) j))
+  standardAt Ctr Encrypt n m iv u j = xorBits (u j) (msb (length (u j)) (ciph (bits (counter m iv j))))
+  standardAt Ctr Decrypt n m iv u j = xorBits (u j) (msb (length (u j)) (ciph (bits (counter m iv j))))
 
   -- The whole message.
-  unfoldable pub standard : Mode → Direction → ℕ → List ℕ → List Bool → List Bool
-  standard mode dir n iv x = joined (unitsIn n (length x)) (standardAt mode dir n iv (unitAt n x))
+  unfoldable pub standard : Mode → Direction → ℕ → ℕ → List ℕ → List Bool → List Bool
+  standard mode dir n m iv x = joined (unitsIn n (length x)) (standardAt mode dir n m iv (unitAt n x))

@@ -1,6 +1,6 @@
 // The modes' vocabulary. What each mode does to a unit stands in specs/, over any two block functions.
 ghost use mathlib.Core.Path.{_≡_};
-ghost use Rattle.rules.specs.Lengths.{unitLengthOk};
+ghost use Rattle.rules.specs.Lengths.{unitLengthOk, counterLengthOk};
 
 pub enum Mode {
     Ecb,
@@ -25,5 +25,18 @@ pub fn unit_length_ok(mode: Mode, n: usize) -> bool
         Mode::Cfb => 1 <= n && n <= 128,
         Mode::Ofb => n == 128,
         Mode::Ctr => n == 128,
+    }
+}
+
+// Question 14: is m from 1 to 128 in CTR, and 128 elsewhere?
+pub fn counter_length_ok(mode: Mode, m: usize) -> bool
+    ensures { λ r. ⌜ r ≡ counterLengthOk mode m ⌝ }
+{
+    match mode {
+        Mode::Ecb => m == 128,
+        Mode::Cbc => m == 128,
+        Mode::Cfb => m == 128,
+        Mode::Ofb => m == 128,
+        Mode::Ctr => 1 <= m && m <= 128,
     }
 }

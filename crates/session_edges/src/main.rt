@@ -1,5 +1,6 @@
-// Runs open and feed on the edges that document 01 names, and prints what they gave. The file `stdout` has what document 01
-// says; expected.py, which shares nothing with the crates, writes it.
+// Runs open and feed on the edges that document 01 and request 05 name, and prints what they gave. The file `stdout` has what
+// these say; expected.py, which shares nothing with the crates, writes it.
+mod counters;
 
 use modes::Session;
 use rules::Direction;
@@ -37,13 +38,19 @@ fn open(name: &[u8], mode: Mode, n: usize, key: &[u8], iv: &[u8]) {
     show::end();
 }
 
-// A feed into 40 bytes of ee: its number, the output, the session's R and units, the runs, and the closing.
-fn feed(name: &[u8], session: Session, input: &[u8], bits: usize, place: usize) -> Session {
-    let mut out = [0xeeu8; 40];
-    let fed = session.feed(input, bits, &mut out, place);
+// A feed: its number, the output, the session's R and units, the runs, and the closing.
+fn feed_into(
+    name: &[u8],
+    session: Session,
+    input: &[u8],
+    bits: usize,
+    out: &mut [u8],
+    place: usize,
+) -> Session {
+    let fed = session.feed(input, bits, out, place);
     show::label(name);
     show::number(fed.number as u64);
-    show::bytes(&out);
+    show::bytes(out);
     let next = fed.session;
     let register = next.register;
     show::block(register);
@@ -54,6 +61,12 @@ fn feed(name: &[u8], session: Session, input: &[u8], bits: usize, place: usize) 
     }
     show::end();
     next
+}
+
+// A feed into 40 bytes of ee.
+fn feed(name: &[u8], session: Session, input: &[u8], bits: usize, place: usize) -> Session {
+    let mut out = [0xeeu8; 40];
+    feed_into(name, session, input, bits, &mut out, place)
 }
 
 fn opened(mode: Mode, direction: Direction, n: usize, iv: &[u8]) -> Session {
@@ -199,6 +212,7 @@ fn limits(input: &[u8]) {
         mode: Mode::Cfb,
         direction: Direction::Encrypt,
         n: 8,
+        m: 128,
         rounds: 10,
         keys,
         register,
@@ -246,4 +260,5 @@ fn main() {
     places(input);
     limits(input);
     largest();
+    counters::run();
 }

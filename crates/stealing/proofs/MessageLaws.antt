@@ -31,7 +31,7 @@ use Rattle.stealing.proofs.NumberLaws.{frontBits, endBits, front-number
 module _ {s : Session} {input : List ℕ} {count : ℕ} {out : List ℕ} (b : Begins s input count out) (arrays : Arrays s) where
   pub front-accepted : feedNumber s (length input) (frontBits count) (length out) 0 ≡ 0
   unfolding feedNumber
-  front-accepted = rw (b .mode, b .unit, b .not-closed, b .no-units) (front-number (s .rounds) (length input) count (length out) (b .rounds-good) (b .there) (b .small) (b .room))
+  front-accepted = rw (b .mode, b .unit, b .counter, b .not-closed, b .no-units) (front-number (s .rounds) (length input) count (length out) (b .rounds-good) (b .there) (b .small) (b .room))
 
   abbrev x : List Bool
   x = fedText input count
@@ -56,13 +56,13 @@ module _ {s : Session} {input : List ℕ} {count : ℕ} {out : List ℕ} (b : Be
   unfolding fullBlocks
   front-length = length-take-le (t * 128) x (omega arith)
 
-  front-text-is : sessionText s (fedText input (frontBits count)) ≡ worked E D Cbc (s .direction) 128 (s .register) (take (t * 128) x)
+  front-text-is : sessionText s (fedText input (frontBits count)) ≡ worked E D Cbc (s .direction) 128 128 (s .register) (take (t * 128) x)
   unfolding sessionText
-  front-text-is = rw (b .mode, b .unit, front-is)
+  front-text-is = rw (b .mode, b .unit, b .counter, front-is)
 
-  front-register-is : sessionRegister s (fedText input (frontBits count)) (unitsIn (s .n) (length (fedText input (frontBits count)))) ≡ registerAt E D Cbc (s .direction) 128 (s .register) (take (t * 128) x) t
+  front-register-is : sessionRegister s (fedText input (frontBits count)) (unitsIn (s .n) (length (fedText input (frontBits count)))) ≡ registerAt E D Cbc (s .direction) 128 128 (s .register) (take (t * 128) x) t
   unfolding sessionRegister
-  front-register-is = rw (b .mode, b .unit, front-is, front-length, units-of t (lit< tt))
+  front-register-is = rw (b .mode, b .unit, b .counter, front-is, front-length, units-of t (lit< tt))
 
   rest-is : take (128 + endBits count) (bits (drop (frontBits count / 8) input)) ≡ drop (t * 128) x
   unfolding fedText fullBlocks

@@ -12,15 +12,15 @@ use Rattle.cipher.specs.Cipher.{roundsOk}
 use Rattle.aes.specs.Calls.{keyOk}
 use Rattle.rules.specs.declared.Mode.the-variants.{Cbc}
 use Rattle.rules.specs.Rules.{unitsIn}
-use Rattle.rules.specs.Lengths.{unitLengthOk, wholeUnits}
-use Rattle.questions.proofs.QuestionLaws.{opening-taken, first-yes, both-true, bits-small, bits-there, room-inside, room-there}
+use Rattle.rules.specs.Lengths.{unitLengthOk, counterLengthOk, wholeUnits}
+use Rattle.questions.proofs.QuestionLaws.{opening-taken, counters-enough, first-yes, both-true, bits-small, bits-there, room-inside, room-there}
 use Rattle.questions.specs.Questions.{ask, maxBits, maxUnits, sessionOk, bitsOk, roomOk, unitsOk, feedQuestions, ivOk, openQuestions}
 use Rattle.modes.specs.Sessions.{openNumber}
 use Rattle.stealing.specs.Calls.{messageOk, messageQuestions, stealQuestions, stealNumber}
 
 module _ (key iv : List ℕ) (bytes count size place : ℕ) where
-  pub opening-no : {number : ℕ} → number ≡ openNumber Cbc 128 key iv → (number ≡ 0 → ⊥) → number ≡ stealNumber key iv bytes count size place
-  unfolding openNumber openQuestions stealNumber stealQuestions ask unitLengthOk
+  pub opening-no : {number : ℕ} → number ≡ openNumber Cbc 128 128 key iv → (number ≡ 0 → ⊥) → number ≡ stealNumber key iv bytes count size place
+  unfolding openNumber openQuestions stealNumber stealQuestions ask unitLengthOk counterLengthOk
   opening-no {number} e some = go (keyOk key) (ivOk Cbc iv) e
     where
       go : (a b : Bool) → number ≡ cond a (cond b 0 2) 1 → number ≡ cond a (cond b (ask (messageQuestions bytes count size place)) 2) 1
@@ -32,9 +32,9 @@ module _ (key iv : List ℕ) (bytes count size place : ℕ) where
   unfolding stealNumber stealQuestions ask
   both-yes q1 q2 = rw (q1, q2)
 
-  pub opening-yes : openNumber Cbc 128 key iv ≡ 0 → stealNumber key iv bytes count size place ≡ ask (messageQuestions bytes count size place)
+  pub opening-yes : openNumber Cbc 128 128 key iv ≡ 0 → stealNumber key iv bytes count size place ≡ ask (messageQuestions bytes count size place)
   unfolding openNumber
-  opening-yes e = let taken = opening-taken Cbc 128 key iv e in both-yes (taken .key-size) (taken .iv-size)
+  opening-yes e = let taken = opening-taken Cbc 128 128 key iv e in both-yes (taken .key-size) (taken .iv-size)
 
 -- What the number 0 grants: of the message, and of the whole call.
 pub record MessageTaken (bytes count size place : ℕ) : Type 0 where
@@ -92,8 +92,8 @@ front-units count small = le-leb (0 + (frontBits count + (128 - 1)) / 128) maxUn
 
 -- The feed of a message's front is asked for nothing that the message lacks.
 pub front-number : (rounds bytes count size : ℕ) → roundsOk rounds ≡ true → count ≤ 8 * bytes → count ≤ maxBits → bytesFor count ≤ size
-    → ask (feedQuestions Cbc rounds 128 false 0 bytes (frontBits count) size 0) ≡ 0
-unfolding feedQuestions ask sessionOk unitLengthOk bitsOk wholeUnits
+    → ask (feedQuestions Cbc rounds 128 128 false 0 bytes (frontBits count) size 0) ≡ 0
+unfolding feedQuestions ask sessionOk unitLengthOk counterLengthOk bitsOk wholeUnits
 front-number rounds bytes count size good there small room =
     rw (
       good,
@@ -102,4 +102,5 @@ front-number rounds bytes count size good there small room =
       eq-eqb (frontBits count % 128) 0 (omega arith),
       front-room count size room,
       front-units count small,
+      counters-enough 128 0 (unitsIn 128 (frontBits count)) (omega arith) (front-units count small),
     )

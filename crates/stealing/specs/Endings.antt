@@ -40,6 +40,7 @@ pub record Ends (rounds size : ℕ) (part : List ℕ) : Type 0 where
 pub record Begins (s : Session) (input : List ℕ) (count : ℕ) (out : List ℕ) : Type 0 where
   pub mode : s .mode ≡ Cbc
   pub unit : s .n ≡ 128
+  pub counter : s .m ≡ 128
   pub rounds-good : roundsOk (s .rounds) ≡ true
   pub not-closed : s .closed ≡ false
   pub no-units : s .units ≡ 0

@@ -37,8 +37,8 @@ unfoldable pub exchanged : List Bool → List Bool
 exchanged x = take (length x - 256) x ++ drop (length x - 128) x ++ take 128 (drop (length x - 256) x)
 
 pub record PlainExchanged (enc dec : List ℕ → List ℕ) (iv : List ℕ) (x : List Bool) : Type 0 where
-  pub encrypted-plain : stolenText enc dec Encrypt iv x ≡ exchanged (standard enc dec Cbc Encrypt 128 iv x)
-  pub decrypted-plain : stolenText enc dec Decrypt iv x ≡ standard enc dec Cbc Decrypt 128 iv (exchanged x)
+  pub encrypted-plain : stolenText enc dec Encrypt iv x ≡ exchanged (standard enc dec Cbc Encrypt 128 128 iv x)
+  pub decrypted-plain : stolenText enc dec Decrypt iv x ≡ standard enc dec Cbc Decrypt 128 128 iv (exchanged x)
 
 unfoldable pub WholeBlocksExchanged : Type 0
 WholeBlocksExchanged =
@@ -53,7 +53,7 @@ filledUp x = x ++ replicate (unitsIn 128 (length x) * 128 - length x) false
 unfoldable pub FilledAndCut : Type 0
 FilledAndCut =
     (enc dec : List ℕ → List ℕ) (iv : List ℕ) (x : List Bool) → BlockCipher enc dec → Block iv → 128 < length x
-    → stolenText enc dec Encrypt iv x ≡ take (length x) (exchanged (standard enc dec Cbc Encrypt 128 iv (filledUp x)))
+    → stolenText enc dec Encrypt iv x ≡ take (length x) (exchanged (standard enc dec Cbc Encrypt 128 128 iv (filledUp x)))
 
 -- Block t of a message is none of its last two.
 abbrev pub NotLastTwo : List Bool → ℕ → Type 0

@@ -24,6 +24,7 @@ use Rattle.rules.specs.declared.Direction.the-variants.{Encrypt, Decrypt}
 use Rattle.rules.specs.declared.Direction.{Direction}
 use Rattle.rules.specs.Rules.{msb, mask, next, cipher, plain, outOf, nextOf}
 use Rattle.rules.proofs.Units.{UnitLength}
+use Rattle.rules.proofs.AnyCounter.{nextOf-any}
 use Rattle.units.specs.declared.unit.Ran.{Ran}
 use Rattle.units.specs.declared.unit.Step.{Step}
 use Rattle.units.specs.Turns.{decrypting, runsDec, Runs, Counted, Turned, unitSizeOk}
@@ -63,25 +64,25 @@ abbrev stepBy : Ran → List ℕ → List ℕ → Step
 stepBy ran out after = record { out = out; register = after; runs = ran .runs }
 
 module _ (f : List ℕ → List ℕ) {register unit : List ℕ} (hr : Block register) (hu : Block unit) {ran : Ran} (hb : Block (ran .block)) where
-  by-run : {block : List ℕ} {mode : Mode} {dir : Direction} {size : ℕ} {out after : List ℕ} → Counted f block ran
-      → take size (bits out) ≡ outOf f f mode dir register (take size (bits unit)) → after ≡ nextOf f f mode dir register (take size (bits unit))
-      → Turned f mode dir register unit size (stepBy ran out after)
+  by-run : {block : List ℕ} {mode : Mode} {dir : Direction} {m size : ℕ} {out after : List ℕ} → Counted f block ran
+      → take size (bits out) ≡ outOf f f mode dir register (take size (bits unit)) → after ≡ nextOf f f mode dir m register (take size (bits unit))
+      → Turned f mode dir m register unit size (stepBy ran out after)
   by-run run text next = record { out-bits = text; register-after = next; one-run = run .one-run }
 
-  pub ecb-turned : (dir : Direction) → Counted f unit ran → Turned f Ecb dir register unit 128 (stepBy ran (ran .block) register)
+  pub ecb-turned : (dir : Direction) → Counted f unit ran → Turned f Ecb dir 128 register unit 128 (stepBy ran (ran .block) register)
   unfolding outOf nextOf cipher plain next
   ecb-turned Encrypt run = by-run run (whole hb ∙ ap bits (run .made ∙ ap f (sym (packed hu)))) refl
   ecb-turned Decrypt run = by-run run (whole hb ∙ ap bits (run .made ∙ ap f (sym (packed hu)))) refl
 
   pub cbc-encrypted : {added : List ℕ} → added ≡ xorBytes unit register → Counted f added ran
-      → Turned f Cbc Encrypt register unit 128 (stepBy ran (ran .block) (ran .block))
+      → Turned f Cbc Encrypt 128 register unit 128 (stepBy ran (ran .block) (ran .block))
   unfolding outOf nextOf cipher next
   cbc-encrypted e run =
       let same : ran .block ≡ f (xorBytes (pack (take 128 (bits unit))) register) = run .made ∙ ap f (e ∙ ap (λ u. xorBytes u register) (sym (packed hu))) in
       by-run run (whole hb ∙ ap bits same) (sym (block-pack-bits hb) ∙ ap (λ b. pack (bits b)) same)
 
   pub cbc-decrypted : {out : List ℕ} → Block out → Counted f unit ran → out ≡ xorBytes (ran .block) register
-      → Turned f Cbc Decrypt register unit 128 (stepBy ran out unit)
+      → Turned f Cbc Decrypt 128 register unit 128 (stepBy ran out unit)
   unfolding outOf nextOf plain next
   cbc-decrypted ho run e = by-run run (whole ho ∙ ap bits (e ∙ ap (λ b. xorBytes b register) (run .made ∙ ap f (sym (packed hu))))) (sym (packed hu))
 
@@ -91,24 +92,30 @@ module _ (f : List ℕ → List ℕ) {register unit : List ℕ} (hr : Block regi
     text = ap (λ b. take size (bits b)) g ∙ masked size hu hb le ∙ ap (mask (take size (bits unit))) (run .made)
 
     pub cfb-encrypted : {after : List ℕ} → Block out → after ≡ packTo 16 (drop size (bits register) ++ take size (bits out))
-        → Turned f Cfb Encrypt register unit size (stepBy ran out after)
+        → Turned f Cfb Encrypt 128 register unit size (stepBy ran out after)
     unfolding outOf nextOf cipher next
     cfb-encrypted ho h = by-run run text (h ∙ shifted size hr ho le ∙ ap (λ c. pack (shiftIn (bits register) c)) text)
 
     pub cfb-decrypted : {after : List ℕ} → after ≡ packTo 16 (drop size (bits register) ++ take size (bits unit))
-        → Turned f Cfb Decrypt register unit size (stepBy ran out after)
+        → Turned f Cfb Decrypt 128 register unit size (stepBy ran out after)
     unfolding outOf nextOf plain next
     cfb-decrypted h = by-run run text (h ∙ shifted size hr hu le)
 
-    pub ofb-turned : (dir : Direction) → Turned f Ofb dir register unit size (stepBy ran out (ran .block))
+    pub ofb-turned : (dir : Direction) → Turned f Ofb dir 128 register unit size (stepBy ran out (ran .block))
     unfolding outOf nextOf cipher plain next
     ofb-turned Encrypt = by-run run text (run .made)
     ofb-turned Decrypt = by-run run text (run .made)
 
-    pub ctr-turned : (dir : Direction) {after : List ℕ} → after ≡ increment register → Turned f Ctr dir register unit size (stepBy ran out after)
+    pub ctr-turned : (dir : Direction) {m : ℕ} {after : List ℕ} → after ≡ increment m register → Turned f Ctr dir m register unit size (stepBy ran out after)
     unfolding outOf nextOf cipher plain next
     ctr-turned Encrypt h = by-run run text h
     ctr-turned Decrypt h = by-run run text h
+
+-- Only CTR looks at m.
+pub any-counter : {f : List ℕ → List ℕ} {mode : Mode} {dir : Direction} {m m′ : ℕ} {register unit : List ℕ} {size : ℕ} {r : Step} → (mode ≡ Ctr → m ≡ m′)
+    → Turned f mode dir m register unit size r → Turned f mode dir m′ register unit size r
+any-counter {f} {mode} {dir} {register = register} free t =
+    record { out-bits = t .out-bits; register-after = t .register-after ∙ nextOf-any f f mode free dir register _; one-run = t .one-run }
 
 -- ---- a unit's bits, by the mode
 
@@ -139,18 +146,18 @@ module _ {f enc dec : List ℕ → List ℕ} {r : List ℕ} (block : Block r) (u
   out-same Ctr Encrypt runs l = rw (runs .same r block)
   out-same Ctr Decrypt runs l = rw (runs .same r block)
 
-  pub next-same : (mode : Mode) (dir : Direction) → Runs f enc dec mode dir → UnitLength mode (length u) → nextOf f f mode dir r u ≡ nextOf enc dec mode dir r u
+  pub next-same : (mode : Mode) (dir : Direction) (m : ℕ) → Runs f enc dec mode dir → UnitLength mode (length u) → nextOf f f mode dir m r u ≡ nextOf enc dec mode dir m r u
   unfolding nextOf cipher next runsDec decrypting UnitLength
-  next-same Ecb Encrypt runs l = refl
-  next-same Ecb Decrypt runs l = refl
-  next-same Cbc Encrypt runs l = rw (runs .same (xorBytes (pack u) r) (xorBytes-block (pack-block u l) block))
-  next-same Cbc Decrypt runs l = refl
-  next-same Cfb Encrypt runs l = rw (runs .same r block)
-  next-same Cfb Decrypt runs l = refl
-  next-same Ofb Encrypt runs l = rw (runs .same r block)
-  next-same Ofb Decrypt runs l = rw (runs .same r block)
-  next-same Ctr Encrypt runs l = refl
-  next-same Ctr Decrypt runs l = refl
+  next-same Ecb Encrypt m runs l = refl
+  next-same Ecb Decrypt m runs l = refl
+  next-same Cbc Encrypt m runs l = rw (runs .same (xorBytes (pack u) r) (xorBytes-block (pack-block u l) block))
+  next-same Cbc Decrypt m runs l = refl
+  next-same Cfb Encrypt m runs l = rw (runs .same r block)
+  next-same Cfb Decrypt m runs l = refl
+  next-same Ofb Encrypt m runs l = rw (runs .same r block)
+  next-same Ofb Decrypt m runs l = rw (runs .same r block)
+  next-same Ctr Encrypt m runs l = refl
+  next-same Ctr Decrypt m runs l = refl
 
 -- What was prepared runs it.
 pub runs-prepared : {dec : Bool} {mode : Mode} {dir : Direction} {rounds : ℕ} {keys table last words : List ℕ} → PreparedFor dec rounds keys table last words → dec ≡ runsDec mode dir

@@ -45,7 +45,7 @@ pub record Counted (f : List ℕ → List ℕ) (block : List ℕ) (r : Ran) : Ty
   pub one-run : r .runs ≡ 1
 
 -- A unit by the block function f, whichever of the two it is, in one run.
-pub record Turned (f : List ℕ → List ℕ) (mode : Mode) (dir : Direction) (register unit : List ℕ) (size : ℕ) (r : Step) : Type 0 where
+pub record Turned (f : List ℕ → List ℕ) (mode : Mode) (dir : Direction) (m : ℕ) (register unit : List ℕ) (size : ℕ) (r : Step) : Type 0 where
   pub out-bits : take size (bits (r .out)) ≡ outOf f f mode dir register (take size (bits unit))
-  pub register-after : r .register ≡ nextOf f f mode dir register (take size (bits unit))
+  pub register-after : r .register ≡ nextOf f f mode dir m register (take size (bits unit))
   pub one-run : r .runs ≡ 1

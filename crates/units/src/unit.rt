@@ -73,7 +73,7 @@ fn ecb(
     register: [u8; 16],
     unit: [u8; 16],
 ) -> Step
-    ensures { λ r. ⌜ Turned (blockBy dec rounds (now (table .entry)) (now (last .entry)) (now (words .entry))) Mode.Ecb direction register unit 128 r ⌝ }
+    ensures { λ r. ⌜ Turned (blockBy dec rounds (now (table .entry)) (now (last .entry)) (now (words .entry))) Mode.Ecb direction 128 register unit 128 r ⌝ }
 {
     let made = run(dec, rounds, table, last, words, unit);
     let out = made.block;
@@ -94,7 +94,7 @@ fn cbc(
     register: [u8; 16],
     unit: [u8; 16],
 ) -> Step
-    ensures { λ r. ⌜ Turned (blockBy dec rounds (now (table .entry)) (now (last .entry)) (now (words .entry))) Mode.Cbc direction register unit 128 r ⌝ }
+    ensures { λ r. ⌜ Turned (blockBy dec rounds (now (table .entry)) (now (last .entry)) (now (words .entry))) Mode.Cbc direction 128 register unit 128 r ⌝ }
 {
     match direction {
         Direction::Encrypt => {
@@ -146,7 +146,7 @@ fn cfb(
     size: usize,
 ) -> Step
     requires { ⌜ size ≤ 128 ⌝ }
-    ensures { λ r. ⌜ Turned (blockBy dec rounds (now (table .entry)) (now (last .entry)) (now (words .entry))) Mode.Cfb direction register unit size r ⌝ }
+    ensures { λ r. ⌜ Turned (blockBy dec rounds (now (table .entry)) (now (last .entry)) (now (words .entry))) Mode.Cfb direction 128 register unit size r ⌝ }
 {
     let ran = run(dec, rounds, table, last, words, register);
     let block = ran.block;
@@ -183,7 +183,7 @@ fn ofb(
     size: usize,
 ) -> Step
     requires { ⌜ size ≤ 128 ⌝ }
-    ensures { λ r. ⌜ Turned (blockBy dec rounds (now (table .entry)) (now (last .entry)) (now (words .entry))) Mode.Ofb direction register unit size r ⌝ }
+    ensures { λ r. ⌜ Turned (blockBy dec rounds (now (table .entry)) (now (last .entry)) (now (words .entry))) Mode.Ofb direction 128 register unit size r ⌝ }
 {
     let ran = run(dec, rounds, table, last, words, register);
     let next = ran.block;
@@ -205,14 +205,15 @@ fn ctr(
     register: [u8; 16],
     unit: [u8; 16],
     size: usize,
+    m: usize,
 ) -> Step
     requires { ⌜ size ≤ 128 ⌝ }
-    ensures { λ r. ⌜ Turned (blockBy dec rounds (now (table .entry)) (now (last .entry)) (now (words .entry))) Mode.Ctr direction register unit size r ⌝ }
+    ensures { λ r. ⌜ Turned (blockBy dec rounds (now (table .entry)) (now (last .entry)) (now (words .entry))) Mode.Ctr direction m register unit size r ⌝ }
 {
     let ran = run(dec, rounds, table, last, words, register);
     let block = ran.block;
     let out = bits::xor_block(unit, block);
-    let next = bits::increment_block(register);
+    let next = bits::increment_block(register, m);
     Step {
         out,
         register: next,
@@ -232,9 +233,10 @@ fn by_mode(
     register: [u8; 16],
     unit: [u8; 16],
     size: usize,
+    m: usize,
 ) -> Step
     requires { ⌜ unitSizeOk mode size ≡ true ⌝ }
-    ensures { λ r. ⌜ Turned (blockBy dec rounds (now (table .entry)) (now (last .entry)) (now (words .entry))) mode direction register unit size r ⌝ }
+    ensures { λ r. ⌜ Turned (blockBy dec rounds (now (table .entry)) (now (last .entry)) (now (words .entry))) mode direction m register unit size r ⌝ }
 {
     match mode {
         Mode::Ecb => ecb(direction, dec, rounds, table, last, words, register, unit),
@@ -271,6 +273,7 @@ fn by_mode(
             register,
             unit,
             size,
+            m,
         ),
     }
 }
@@ -288,9 +291,10 @@ pub fn turn(
     part: &[u8],
     offset: usize,
     size: usize,
+    m: usize,
 ) -> Step
     requires { ⌜ unitSizeOk mode size ≡ true ⌝ }
-    ensures { λ r. ⌜ Turned (blockBy dec rounds (now (table .entry)) (now (last .entry)) (now (words .entry))) mode direction register (packTo 16 (take size (drop offset (bits (now (part .entry)))))) size r ⌝ }
+    ensures { λ r. ⌜ Turned (blockBy dec rounds (now (table .entry)) (now (last .entry)) (now (words .entry))) mode direction m register (packTo 16 (take size (drop offset (bits (now (part .entry)))))) size r ⌝ }
 {
     let unit = bits::window(part, offset, size);
     by_mode(
@@ -304,5 +308,6 @@ pub fn turn(
         register,
         unit,
         size,
+        m,
     )
 }

@@ -7,7 +7,7 @@ use borrow.Author.Tests.{not-true, not-false}
 use Rattle.bits.specs.Texts.{bytesFor}
 use Rattle.rules.specs.Lengths.{wholeUnits}
 use Rattle.rules.specs.Rules.{unitsIn}
-use Rattle.questions.specs.Questions.{ask, sessionOk, bitsOk, roomOk, unitsOk, maxBits, feedQuestions}
+use Rattle.questions.specs.Questions.{ask, sessionOk, bitsOk, roomOk, unitsOk, countersOk, maxBits, feedQuestions}
 use borrow.Author.Needs.{needs}
 use Rattle.questions.proofs.feed_number.Statement.{statement}
 use Rattle.questions.proofs.feed_number.Tie as tie
@@ -38,9 +38,12 @@ entry7 c = entry6 (past6 c)
 abbrev entry8 : tie.Else5 → tie.Start
 entry8 c = entry7 (past7 c)
 
+abbrev past8 : tie.Else6 → tie.Else5
+past8 c = c .before .before .before
+
 -- ---- the answers
 
-yes4 : (c : tie.Else1) → let a = entry4 c .args in sessionOk (a .mode) (a .rounds) (a .n) ≡ true
+yes4 : (c : tie.Else1) → let a = entry4 c .args in sessionOk (a .mode) (a .rounds) (a .n) (a .m) ≡ true
 yes4 c = sym (c .before .session-ok .ensures) ∙ not-false _ (c .if1 .left)
 
 yes6 : (c : tie.Else3) → let a = entry6 c .args in bitsOk maxBits (a .bytes) (a .bits) ≡ true
@@ -57,6 +60,12 @@ yes8 c = sym (room (c .before)) ∙ not-false _ (c .if5 .left)
 
 counted : (c : tie.After-units-ok) → let a = entry8 (c .before .before) .args in c .units-ok .result ≡ unitsOk (a .units) (unitsIn (a .n) (a .bits))
 counted c = c .units-ok .ensures ∙ ap (unitsOk _) (c .before .units-in .ensures)
+
+yes9 : (c : tie.Else6) → let a = entry8 (past8 c) .args in unitsOk (a .units) (unitsIn (a .n) (a .bits)) ≡ true
+yes9 c = sym (counted (c .before)) ∙ not-false _ (c .if6 .left)
+
+blocks : (c : tie.After-counters-ok) → let a = entry8 (past8 (c .before)) .args in c .counters-ok .result ≡ countersOk (a .m) (a .units) (unitsIn (a .n) (a .bits))
+blocks c = c .counters-ok .ensures ∙ ap (countersOk _ _) (c .before .before .before .units-in .ensures)
 
 -- ---- the needs
 
@@ -113,12 +122,24 @@ returns-6 c =
     let q = past6 (past7 p) in
     rw (yes4 (past4 (past5 q)), past5 q .if2 .left, yes6 q, yes7 (past7 p), yes8 p, sym (counted (c .before)) ∙ not-true _ (c .if6 .taken))
 
+counters-ok-requires : tie.Need-counters-ok-requires
+counters-ok-requires c κs = sym (c .before .units-ok .ensures) ∙ not-false _ (c .if6 .left)
+
 returns-7 : tie.Need-returns-7
 unfolding ask feedQuestions
 returns-7 c =
-    let p = c .before .before .before in
+    let o = c .before .before in
+    let p = past8 o in
     let q = past6 (past7 p) in
-    rw (yes4 (past4 (past5 q)), past5 q .if2 .left, yes6 q, yes7 (past7 p), yes8 p, sym (counted (c .before)) ∙ not-false _ (c .if6 .left))
+    rw (yes4 (past4 (past5 q)), past5 q .if2 .left, yes6 q, yes7 (past7 p), yes8 p, yes9 o, sym (blocks (c .before)) ∙ not-true _ (c .if7 .taken))
+
+returns-8 : tie.Need-returns-8
+unfolding ask feedQuestions
+returns-8 c =
+    let o = c .before .before in
+    let p = past8 o in
+    let q = past6 (past7 p) in
+    rw (yes4 (past4 (past5 q)), past5 q .if2 .left, yes6 q, yes7 (past7 p), yes8 p, yes9 o, sym (blocks (c .before)) ∙ not-false _ (c .if7 .left))
 
 pub feed-number-spec : {M : Type 1} → statement M
 feed-number-spec =
@@ -137,4 +158,6 @@ feed-number-spec =
     units-in-requires
     units-ok-requires
     returns-6
-    returns-7)
+    counters-ok-requires
+    returns-7
+    returns-8)

@@ -31,81 +31,81 @@ use Rattle.rules.proofs.Recovering.OneUnit.{plain-unit, there, changed-
 
 -- ---- ECB
 
-module _ {enc dec : List ℕ → List ℕ} (ciphers : BlockCipher enc dec) (v : List ℕ) (block : Block (start Ecb v)) (x y : List Bool) (tx : Taken Ecb 128 x) (ty : Taken Ecb 128 y) (j : ℕ) (change : OneBlockChanged x y j) where
-  pub only-block-damaged : OnlyBlockDamaged (worked enc dec Ecb Decrypt 128 (start Ecb v) x) (worked enc dec Ecb Decrypt 128 (start Ecb v) y) j
+module _ {enc dec : List ℕ → List ℕ} (ciphers : BlockCipher enc dec) (m : ℕ) (v : List ℕ) (block : Block (start Ecb v)) (x y : List Bool) (tx : Taken Ecb 128 x) (ty : Taken Ecb 128 y) (j : ℕ) (change : OneBlockChanged x y j) where
+  pub only-block-damaged : OnlyBlockDamaged (worked enc dec Ecb Decrypt 128 m (start Ecb v) x) (worked enc dec Ecb Decrypt 128 m (start Ecb v) y) j
   unfolding unitLengthOk recovers recoveryUnits
   only-block-damaged =
       record {
-        here = damaged-here ciphers v block x y tx ty j change;
-        others = λ t other. undamaged ciphers v block x y tx ty j change refl refl t (λ h. omega arith);
+        here = damaged-here ciphers m v block x y tx ty j change;
+        others = λ t other. undamaged ciphers m v block x y tx ty j change refl refl t (λ h. omega arith);
       }
 
 -- ---- CBC
 
-module _ {enc dec : List ℕ → List ℕ} (ciphers : BlockCipher enc dec) (v : List ℕ) (block : Block (start Cbc v)) where
+module _ {enc dec : List ℕ → List ℕ} (ciphers : BlockCipher enc dec) (m : ℕ) (v : List ℕ) (block : Block (start Cbc v)) where
   -- A later unit is the unit before of the ciphertext, masked with what dec makes of its own.
   plain-chained : {x : List Bool} → Taken Cbc 128 x → (t : ℕ) → suc t < unitsIn 128 (length x)
-      → unitAt 128 (worked enc dec Cbc Decrypt 128 (start Cbc v) x) (suc t) ≡ xorBits (unitAt 128 x t) (ciphInv enc dec (unitAt 128 x (suc t)))
+      → unitAt 128 (worked enc dec Cbc Decrypt 128 m (start Cbc v) x) (suc t) ≡ xorBits (unitAt 128 x t) (ciphInv enc dec (unitAt 128 x (suc t)))
   unfolding UnitLength
   plain-chained {x} text t h =
       let c = unitAt 128 x t in
       let d = unitAt 128 x (suc t) in
       let l : length c ≡ 128 = text .unit t (le-of-lt h) in
-      plain-unit ciphers v block text (suc t) h
-      ∙ ap (λ (r : List ℕ). plain enc dec Cbc r d) (cbc-register enc dec 128 (start Cbc v) x t)
+      plain-unit ciphers m v block text (suc t) h
+      ∙ ap (λ (r : List ℕ). plain enc dec Cbc r d) (cbc-register enc dec m 128 (start Cbc v) x t)
       ∙ cbc-plain ciphers (pack-block c l) d (text .unit (suc t) h)
       ∙ ap (xorBits (ciphInv enc dec d)) (block-bits-pack c l)
       ∙ xorBits-comm (ciphInv enc dec d) c
 
   module _ (x y : List Bool) (tx : Taken Cbc 128 x) (ty : Taken Cbc 128 y) (j : ℕ) (change : OneBlockChanged x y j) where
     damaged-next : suc (suc j) * 128 ≤ length x → (b : ℕ)
-        → Differ (unitAt 128 (worked enc dec Cbc Decrypt 128 (start Cbc v) x) (suc j)) (unitAt 128 (worked enc dec Cbc Decrypt 128 (start Cbc v) y) (suc j)) b
+        → Differ (unitAt 128 (worked enc dec Cbc Decrypt 128 m (start Cbc v) x) (suc j)) (unitAt 128 (worked enc dec Cbc Decrypt 128 m (start Cbc v) y) (suc j)) b
         ↔ Differ (unitAt 128 x j) (unitAt 128 y j) b
     unfolding UnitLength ciphInv
     damaged-next inside b =
         let h = whole-there (length x) (suc j) (tx .some) inside in
-        let i = there ciphers v block x y tx ty j change (suc j) h in
+        let i = there ciphers m v block x y tx ty j change (suc j) h in
         let d = unitAt 128 x (suc j) in
         let lx = tx .unit j (le-of-lt h) in
         rw (plain-chained tx j h, plain-chained ty j i, ← change .others (suc j) (omega arith))
         (xor-differ (unitAt 128 x j) (unitAt 128 y j) (ciphInv enc dec d) (lx ∙ sym (ty .unit j (le-of-lt i)))
         (omega (arith, bits-block (ciphers .dec-block (pack d) (pack-block d (tx .unit (suc j) h))))) b)
 
-    pub one-block-damaged : OneBlockDamaged x y (worked enc dec Cbc Decrypt 128 (start Cbc v) x) (worked enc dec Cbc Decrypt 128 (start Cbc v) y) j
+    pub one-block-damaged : OneBlockDamaged x y (worked enc dec Cbc Decrypt 128 m (start Cbc v) x) (worked enc dec Cbc Decrypt 128 m (start Cbc v) y) j
     unfolding unitLengthOk recovers recoveryUnits
     one-block-damaged =
         record {
-          here = damaged-here ciphers v block x y tx ty j change;
+          here = damaged-here ciphers m v block x y tx ty j change;
           following = damaged-next;
-          others = λ t this next. undamaged ciphers v block x y tx ty j change refl refl t (λ h. omega arith);
+          others = λ t this next. undamaged ciphers m v block x y tx ty j change refl refl t (λ h. omega arith);
         }
 
 -- ---- CFB
 
-module _ {enc dec : List ℕ → List ℕ} (ciphers : BlockCipher enc dec) {n : ℕ} (v : List ℕ) (block : Block (start Cfb v)) (x y : List Bool) (tx : Taken Cfb n x) (ty : Taken Cfb n y) (j : ℕ) (change : OneUnitChanged n x y j) where
-  segment-here : (b : ℕ) → Differ (unitAt n (worked enc dec Cfb Decrypt n (start Cfb v) x) j) (unitAt n (worked enc dec Cfb Decrypt n (start Cfb v) y) j) b
+module _ {enc dec : List ℕ → List ℕ} (ciphers : BlockCipher enc dec) (m : ℕ) {n : ℕ} (v : List ℕ) (block : Block (start Cfb v)) (x y : List Bool) (tx : Taken Cfb n x) (ty : Taken Cfb n y) (j : ℕ) (change : OneUnitChanged n x y j) where
+  segment-here : (b : ℕ) → Differ (unitAt n (worked enc dec Cfb Decrypt n m (start Cfb v) x) j) (unitAt n (worked enc dec Cfb Decrypt n m (start Cfb v) y) j) b
       ↔ Differ (unitAt n x j) (unitAt n y j) b
   unfolding plain UnitLength
   segment-here b =
-      let h = changed-there ciphers v block x y tx ty j change in
-      let i = there ciphers v block x y tx ty j change j h in
-      let r = registerAt enc dec Cfb Decrypt n (start Cfb v) x j in
-      let masked = ciphers .enc-block r (registers-block ciphers Decrypt block tx j (le-of-lt h)) in
+      let h = changed-there ciphers m v block x y tx ty j change in
+      let i = there ciphers m v block x y tx ty j change j h in
+      let r = registerAt enc dec Cfb Decrypt n m (start Cfb v) x j in
+      let masked = ciphers .enc-block r (registers-block ciphers m Decrypt block tx j (le-of-lt h)) in
       rw (
-        plain-unit ciphers v block tx j h,
-        plain-unit ciphers v block ty j i,
-        ← register-before ciphers v block x y tx ty j change j (le-refl j),
+        plain-unit ciphers m v block tx j h,
+        plain-unit ciphers m v block ty j i,
+        ← register-before ciphers m v block x y tx ty j change j (le-refl j),
         mask-xor (unitAt n x j) (tx .unit j h) masked,
         mask-xor (unitAt n y j) (ty .unit j i) masked,
       )
       (xor-differ (unitAt n x j) (unitAt n y j) (bits (enc r)) (simp (unit-length, change .same-length)) (omega (arith, bits-block masked, tx .unit j h)) b)
 
   pub one-segment-damaged : unitLengthOk Cfb n ≡ true
-      → OneSegmentDamaged n x y (worked enc dec Cfb Decrypt n (start Cfb v) x) (worked enc dec Cfb Decrypt n (start Cfb v) y) j
+      → OneSegmentDamaged n x y (worked enc dec Cfb Decrypt n m (start Cfb v) x) (worked enc dec Cfb Decrypt n m (start Cfb v) y) j
   unfolding recovers
   one-segment-damaged ok =
       record {
         here = segment-here;
-        before = λ t h. undamaged ciphers v block x y tx ty j change ok refl t (λ i. omega arith);
-        behind = λ t h. undamaged ciphers v block x y tx ty j change ok refl t (λ i. omega arith);
+        before = λ t h. undamaged ciphers m v block x y tx ty j change ok refl t (λ i. omega arith);
+        behind = λ t h. undamaged ciphers m v block x y tx ty j change ok refl t (λ i. omega arith);
       }

@@ -37,13 +37,13 @@ joined-xor n x f (suc k) full inside =
     (sym (xorBits-append (take (k * n) x) (unitAt n x k) (joined k f) (f k) (rw length-take (omega arith))))
 
 module _ (enc dec : List ℕ → List ℕ) where
-  next-free : (mode : Mode) (r : List ℕ) (c d : List Bool) → recovers mode ≡ false → next enc dec mode r c ≡ next enc dec mode r d
+  next-free : (mode : Mode) (m : ℕ) (r : List ℕ) (c d : List Bool) → recovers mode ≡ false → next enc dec mode m r c ≡ next enc dec mode m r d
   unfolding next recovers
-  next-free Ecb r c d free = cc
-  next-free Cbc r c d free = cc
-  next-free Cfb r c d free = cc
-  next-free Ofb r c d free = refl
-  next-free Ctr r c d free = refl
+  next-free Ecb m r c d free = cc
+  next-free Cbc m r c d free = cc
+  next-free Cfb m r c d free = cc
+  next-free Ofb m r c d free = refl
+  next-free Ctr m r c d free = refl
 
   plain-stream : (mode : Mode) (r : List ℕ) (c : List Bool) → recovers mode ≡ false → plain enc dec mode r c ≡ mask c (enc r)
   unfolding plain next recovers
@@ -53,48 +53,48 @@ module _ (enc dec : List ℕ → List ℕ) where
   plain-stream Ofb r c free = refl
   plain-stream Ctr r c free = refl
 
-  register-free : (mode : Mode) (n : ℕ) (r : List ℕ) (x y : List Bool) → recovers mode ≡ false → (t : ℕ)
-      → registerAt enc dec mode Decrypt n r x t ≡ registerAt enc dec mode Decrypt n r y t
+  register-free : (mode : Mode) (n m : ℕ) (r : List ℕ) (x y : List Bool) → recovers mode ≡ false → (t : ℕ)
+      → registerAt enc dec mode Decrypt n m r x t ≡ registerAt enc dec mode Decrypt n m r y t
   unfolding registerAt nextOf
-  register-free mode n r x y free zero = refl
-  register-free mode n r x y free (suc t) =
-      next-free mode (registerAt enc dec mode Decrypt n r x t) (unitAt n x t) (unitAt n y t) free
-      ∙ ap (λ (s : List ℕ). next enc dec mode s (unitAt n y t)) (register-free mode n r x y free t)
+  register-free mode n m r x y free zero = refl
+  register-free mode n m r x y free (suc t) =
+      next-free mode m (registerAt enc dec mode Decrypt n m r x t) (unitAt n x t) (unitAt n y t) free
+      ∙ ap (λ (s : List ℕ). next enc dec mode m s (unitAt n y t)) (register-free mode n m r x y free t)
 
   -- The stream: the blocks that the register gives with no text, k of them.
-  streamAt : Mode → List ℕ → ℕ → List ℕ
-  streamAt mode r t = enc (registerAt enc dec mode Decrypt 128 r [] t)
+  streamAt : Mode → ℕ → List ℕ → ℕ → List ℕ
+  streamAt mode m r t = enc (registerAt enc dec mode Decrypt 128 m r [] t)
 
-  stream : Mode → List ℕ → ℕ → List Bool
-  stream mode r k = joined k (λ t. bits (streamAt mode r t))
+  stream : Mode → ℕ → List ℕ → ℕ → List Bool
+  stream mode m r k = joined k (λ t. bits (streamAt mode m r t))
 
-module _ {enc dec : List ℕ → List ℕ} (ciphers : BlockCipher enc dec) where
+module _ {enc dec : List ℕ → List ℕ} (ciphers : BlockCipher enc dec) (m : ℕ) where
   module _ (mode : Mode) (free : recovers mode ≡ false) {r : List ℕ} (block : Block r) (x : List Bool) (text : Taken mode 128 x) where
-    stream-block : (t : ℕ) → t < unitsIn 128 (length x) → Block (streamAt enc dec mode r t)
+    stream-block : (t : ℕ) → t < unitsIn 128 (length x) → Block (streamAt enc dec mode m r t)
     unfolding streamAt
-    stream-block t h = rw (register-free enc dec mode 128 r [] x free t) (ciphers .enc-block _ (registers-block ciphers Decrypt block text t (le-of-lt h)))
+    stream-block t h = rw (register-free enc dec mode 128 m r [] x free t) (ciphers .enc-block _ (registers-block ciphers m Decrypt block text t (le-of-lt h)))
 
-    stream-length : length x ≤ length (stream enc dec mode r (unitsIn 128 (length x)))
+    stream-length : length x ≤ length (stream enc dec mode m r (unitsIn 128 (length x)))
     unfolding stream
     stream-length = rw (joined-length (unitsIn 128 (length x)) _ (λ t h. bits-block (stream-block t h))) (units-cover (length x) (text .some))
 
-    stream-out : (t : ℕ) → t < unitsIn 128 (length x) → outAt enc dec mode Decrypt 128 r x t ≡ xorBits (unitAt 128 x t) (bits (streamAt enc dec mode r t))
+    stream-out : (t : ℕ) → t < unitsIn 128 (length x) → outAt enc dec mode Decrypt 128 m r x t ≡ xorBits (unitAt 128 x t) (bits (streamAt enc dec mode m r t))
     unfolding outAt outOf streamAt
     stream-out t h =
-        plain-stream enc dec mode (registerAt enc dec mode Decrypt 128 r x t) (unitAt 128 x t) free
-        ∙ ap (λ (s : List ℕ). mask (unitAt 128 x t) (enc s)) (register-free enc dec mode 128 r x [] free t)
+        plain-stream enc dec mode (registerAt enc dec mode Decrypt 128 m r x t) (unitAt 128 x t) free
+        ∙ ap (λ (s : List ℕ). mask (unitAt 128 x t) (enc s)) (register-free enc dec mode 128 m r x [] free t)
         ∙ mask-xor (unitAt 128 x t) (unit-short 128 x t) (stream-block t h)
 
-    worked-stream : worked enc dec mode Decrypt 128 r x ≡ xorBits x (stream enc dec mode r (unitsIn 128 (length x)))
+    worked-stream : worked enc dec mode Decrypt 128 m r x ≡ xorBits x (stream enc dec mode m r (unitsIn 128 (length x)))
     unfolding stream
     worked-stream =
-        worked-by enc dec mode Decrypt 128 r x (unitsIn 128 (length x)) (λ t. xorBits (unitAt 128 x t) (bits (streamAt enc dec mode r t))) refl stream-out
-        ∙ joined-xor 128 x (λ t. bits (streamAt enc dec mode r t)) (unitsIn 128 (length x)) (λ t h. bits-block (stream-block t h))
+        worked-by enc dec mode Decrypt 128 m r x (unitsIn 128 (length x)) (λ t. xorBits (unitAt 128 x t) (bits (streamAt enc dec mode m r t))) refl stream-out
+        ∙ joined-xor 128 x (λ t. bits (streamAt enc dec mode m r t)) (unitsIn 128 (length x)) (λ t h. bits-block (stream-block t h))
         (λ t h. le-of-lt (unit-there (length x) t (text .some) .0 h))
-        ∙ ap (λ (z : List Bool). xorBits z (stream enc dec mode r (unitsIn 128 (length x)))) (take-all (unitsIn 128 (length x) * 128) x (units-cover (length x) (text .some)))
+        ∙ ap (λ (z : List Bool). xorBits z (stream enc dec mode m r (unitsIn 128 (length x)))) (take-all (unitsIn 128 (length x) * 128) x (units-cover (length x) (text .some)))
 
   pub stream-damage : (mode : Mode) → recovers mode ≡ false → {r : List ℕ} → Block r → (x y : List Bool) → Taken mode 128 x → Taken mode 128 y
-      → length x ≡ length y → (b : ℕ) → Differ (worked enc dec mode Decrypt 128 r x) (worked enc dec mode Decrypt 128 r y) b ↔ Differ x y b
+      → length x ≡ length y → (b : ℕ) → Differ (worked enc dec mode Decrypt 128 m r x) (worked enc dec mode Decrypt 128 m r y) b ↔ Differ x y b
   stream-damage mode free {r} block x y tx ty same b =
       rw (worked-stream mode free block x tx, worked-stream mode free block y ty, ← same)
-      (xor-differ x y (stream enc dec mode r (unitsIn 128 (length x))) same (stream-length mode free block x tx) b)
+      (xor-differ x y (stream enc dec mode m r (unitsIn 128 (length x))) same (stream-length mode free block x tx) b)

@@ -39,13 +39,13 @@ last-whole x long whole = record { size = rw unit-length (omega arith) }
 -- ---- plain CBC on a message of parts
 
 module _ (enc dec : List ℕ → List ℕ) (iv : List ℕ) {k : ℕ} {f : ℕ → List Bool} {a e : List Bool} (parts : Parts k f a e) where
-  standard-encrypted : standard enc dec Cbc Encrypt 128 iv (message k f a e)
+  standard-encrypted : standard enc dec Cbc Encrypt 128 128 iv (message k f a e)
       ≡ message k (cbcCipher enc dec f (bits iv)) (chained enc dec iv k f a) (ciph enc dec (xorBits e (chained enc dec iv k f a)))
   unfolding standard standardAt joined cbcCipher
   standard-encrypted =
       rw (parts-units parts, unit-end parts, last-cipher enc dec iv parts, joined-same k (early-cipher enc dec iv parts))
 
-  standard-decrypted : standard enc dec Cbc Decrypt 128 iv (message k f a e)
+  standard-decrypted : standard enc dec Cbc Decrypt 128 128 iv (message k f a e)
       ≡ message k (cbcPlain enc dec f (bits iv)) (xorBits (ciphInv enc dec a) (before f (bits iv) k)) (xorBits (ciphInv enc dec e) a)
   unfolding standard standardAt joined cbcPlain
   standard-decrypted =
@@ -114,7 +114,7 @@ module _ {enc dec : List ℕ → List ℕ} (ciphers : BlockCipher enc dec) {iv :
       let have = encrypted-have enc dec iv parts ciphers block in
       parts-same-length (record { early = have .early; whole = have .whole; tail = parts .tail }) parts refl
 
-  filled-and-cut-parts : stolenText enc dec Encrypt iv (message k f a e) ≡ take (length (message k f a e)) (exchanged (standard enc dec Cbc Encrypt 128 iv (filledUp (message k f a e))))
+  filled-and-cut-parts : stolenText enc dec Encrypt iv (message k f a e) ≡ take (length (message k f a e)) (exchanged (standard enc dec Cbc Encrypt 128 128 iv (filledUp (message k f a e))))
   filled-and-cut-parts =
       let whole = chained-whole enc dec iv parts ciphers block in
       rw (

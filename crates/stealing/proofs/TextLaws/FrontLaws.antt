@@ -26,7 +26,7 @@ use Rattle.stealing.specs.Stealing.{before}
 use Rattle.stealing.proofs.TextLaws.BlockLaws.{cipher-same, plain-same}
 
 standard-same : (enc dec : List ℕ → List ℕ) (dir : Direction) (iv : List ℕ) (p q : ℕ → List Bool) (t : ℕ) → ((s : ℕ) → s ≤ t → p s ≡ q s)
-    → standardAt enc dec Cbc dir 128 iv p t ≡ standardAt enc dec Cbc dir 128 iv q t
+    → standardAt enc dec Cbc dir 128 128 iv p t ≡ standardAt enc dec Cbc dir 128 128 iv q t
 unfolding standardAt
 standard-same enc dec Encrypt iv p q t same = cipher-same enc dec (bits iv) t same
 standard-same enc dec Decrypt iv p q t same = plain-same enc dec (bits iv) t same
@@ -56,21 +56,21 @@ module _ {enc dec : List ℕ → List ℕ} (ciphers : BlockCipher enc dec) {iv :
   block-at : (t : ℕ) → t < k → length (unitAt 128 front t) ≡ 128
   block-at t h = unit-full front t (rw front-length (omega arith))
 
-  front-out : (dir : Direction) (t : ℕ) → t < k → outAt enc dec Cbc dir 128 iv front t ≡ standardAt enc dec Cbc dir 128 iv (unitAt 128 x) t
+  front-out : (dir : Direction) (t : ℕ) → t < k → outAt enc dec Cbc dir 128 128 iv front t ≡ standardAt enc dec Cbc dir 128 128 iv (unitAt 128 x) t
   unfolding start unitLengthOk
   front-out dir t h =
-      standard-at ciphers 128 iv front Cbc dir refl whole block t (rw units h)
+      standard-at ciphers 128 128 iv front Cbc dir refl whole block t (rw units h)
       ∙ standard-same enc dec dir iv (unitAt 128 front) (unitAt 128 x) t (λ s i. unit-same s (omega arith))
 
-  pub front-text : (dir : Direction) → worked enc dec Cbc dir 128 iv front ≡ joined k (standardAt enc dec Cbc dir 128 iv (unitAt 128 x))
-  front-text dir = worked-by enc dec Cbc dir 128 iv front k (standardAt enc dec Cbc dir 128 iv (unitAt 128 x)) units (front-out dir)
+  pub front-text : (dir : Direction) → worked enc dec Cbc dir 128 128 iv front ≡ joined k (standardAt enc dec Cbc dir 128 128 iv (unitAt 128 x))
+  front-text dir = worked-by enc dec Cbc dir 128 128 iv front k (standardAt enc dec Cbc dir 128 128 iv (unitAt 128 x)) units (front-out dir)
 
   -- What stands before block t.
-  pub front-register : (dir : Direction) (t : ℕ) → t ≤ k → bits (registerAt enc dec Cbc dir 128 iv front t) ≡ before (cipherBlocks enc dec dir iv (unitAt 128 x)) (bits iv) t
+  pub front-register : (dir : Direction) (t : ℕ) → t ≤ k → bits (registerAt enc dec Cbc dir 128 128 iv front t) ≡ before (cipherBlocks enc dec dir iv (unitAt 128 x)) (bits iv) t
   unfolding registerAt outAt outOf nextOf next before cipherBlocks standardAt unitLengthOk
   front-register dir zero h = refl
   front-register Encrypt (suc t) h =
-      let c = outAt enc dec Cbc Encrypt 128 iv front t in
-      let size : length c ≡ 128 = out-at-length ciphers Encrypt block (taken Cbc 128 front refl whole) t (rw units h) ∙ block-at t h in
+      let c = outAt enc dec Cbc Encrypt 128 128 iv front t in
+      let size : length c ≡ 128 = out-at-length ciphers 128 Encrypt block (taken Cbc 128 front refl whole) t (rw units h) ∙ block-at t h in
       block-bits-pack c size ∙ front-out Encrypt t h
   front-register Decrypt (suc t) h = block-bits-pack (unitAt 128 front t) (block-at t h) ∙ unit-same t h

@@ -21,7 +21,7 @@ use Rattle.stealing.proofs.TextLaws.FrontLaws.{cipherBlocks, front-text
 
 module _ (enc dec : List ℕ → List ℕ) (iv : List ℕ) {k : ℕ} {f : ℕ → List Bool} {a e : List Bool} (parts : Parts k f a e) (r : List ℕ) where
   split-parts : (dir : Direction) → bits r ≡ before (cipherBlocks enc dec dir iv f) (bits iv) k
-      → stolenText enc dec dir iv (message k f a e) ≡ joined k (standardAt enc dec Cbc dir 128 iv f) ++ stolenText enc dec dir r (a ++ e)
+      → stolenText enc dec dir iv (message k f a e) ≡ joined k (standardAt enc dec Cbc dir 128 128 iv f) ++ stolenText enc dec dir r (a ++ e)
   unfolding joined chained regained before standardAt cipherBlocks
   split-parts Encrypt here = rw (encrypted-parts enc dec iv parts, encrypted-parts enc dec r (two-parts (parts .whole) (parts .tail)), here, append-assoc)
   split-parts Decrypt here = rw (decrypted-parts enc dec iv parts, decrypted-parts enc dec r (two-parts (parts .whole) (parts .tail)), here, append-assoc)
@@ -37,11 +37,11 @@ module _ {enc dec : List ℕ → List ℕ} (ciphers : BlockCipher enc dec) {iv :
   unfolding fullBlocks
   inside = omega arith
 
-  pub fed-and-ended : (dir : Direction) → worked enc dec Cbc dir 128 iv (take (k * 128) x) ++ stolenText enc dec dir (registerAt enc dec Cbc dir 128 iv (take (k * 128) x) k) (drop (k * 128) x)
+  pub fed-and-ended : (dir : Direction) → worked enc dec Cbc dir 128 128 iv (take (k * 128) x) ++ stolenText enc dec dir (registerAt enc dec Cbc dir 128 128 iv (take (k * 128) x) k) (drop (k * 128) x)
       ≡ stolenText enc dec dir iv x
   fed-and-ended dir =
       let parts = have-parts x long in
-      let r = registerAt enc dec Cbc dir 128 iv (take (k * 128) x) k in
+      let r = registerAt enc dec Cbc dir 128 128 iv (take (k * 128) x) k in
       let rest : drop (k * 128) x ≡ unitAt 128 x k ++ unitAt 128 x (fullBlocks (length x)) = ap (drop (k * 128)) (sym (in-parts x long)) ∙ parts-rest enc dec iv parts r in
       let split = split-parts enc dec iv parts r dir (front-register ciphers hi x k inside dir k (omega arith)) in
       rw (front-text ciphers hi x k inside dir, rest) (sym split ∙ ap (stolenText enc dec dir iv) (in-parts x long))

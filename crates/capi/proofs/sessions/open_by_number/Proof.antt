@@ -11,7 +11,7 @@ refused-requires : tie.Need-refused-requires
 refused-requires c κs = search needs
 
 returns : tie.Need-returns
-returns c = not-opened _ _ _ _ _ (omega arith) refl (c .refused .ensures)
+returns c = not-opened _ _ _ _ _ _ (omega arith) refl (c .refused .ensures)
 
 mode-of-requires : tie.Need-mode-of-requires
 mode-of-requires c κs = search needs
@@ -19,13 +19,13 @@ mode-of-requires c κs = search needs
 direction-of-requires : tie.Need-direction-of-requires
 direction-of-requires c κs = search needs
 
-open-requires : tie.Need-open-requires
-open-requires c κs = search needs
+open-counter-requires : tie.Need-open-counter-requires
+open-counter-requires c κs = search needs
 
 returns-2 : tie.Need-returns-2
 returns-2 c =
-    opened _ _ _ _ _ (omega arith) (c .before .before .mode-of .ensures) (c .before .direction-of .ensures) (c .«open» .ensures)
+    opened _ _ _ _ _ _ (omega arith) (c .before .before .mode-of .ensures) (c .before .direction-of .ensures) (c .open-counter .ensures)
 
 pub open-by-number-spec : {M : Type 1} → statement M
 open-by-number-spec =
-    tie.close (tie.spec refused-requires returns mode-of-requires direction-of-requires open-requires returns-2)
+    tie.close (tie.spec refused-requires returns mode-of-requires direction-of-requires open-counter-requires returns-2)

@@ -42,8 +42,14 @@ returns-3 c = let e = c .before .before .before in
 
 returns-4 : tie.Need-returns-4
 unfolding sameSettings
-returns-4 c = let e = c .before .before .before .before .before in
-    rw (same-mode (e .before .before .before), same-direction e, eq-eqb _ _ (c .before .before .if3 .left))
+returns-4 c = let e = c .before .before .before .before .before .before in
+    let a = e .before .before .before .before .before .before .args in
+    rw (same-mode (e .before .before .before), same-direction e, eq-eqb _ _ (c .before .before .before .if3 .left), ne-eqb (a .a .m) (a .b .m) (c .if4 .taken))
+
+returns-5 : tie.Need-returns-5
+unfolding sameSettings
+returns-5 c = let e = c .before .before .before .before .before .before .before .before in
+    rw (same-mode (e .before .before .before), same-direction e, eq-eqb _ _ (c .before .before .before .before .before .if3 .left), eq-eqb _ _ (c .before .before .if4 .left))
 
 pub same-settings-spec : {M : Type 1} → statement M
 same-settings-spec =
@@ -56,4 +62,5 @@ same-settings-spec =
     direction-index-requires-2
     returns-2
     returns-3
-    returns-4)
+    returns-4
+    returns-5)

@@ -13,7 +13,7 @@ use Rattle.modes.proofs.work.work_units.Statement.{statement}
 use Rattle.modes.proofs.work.work_units.Tie as tie
 
 abbrev Inv-loop : tie.InvT-loop
-Inv-loop session dec table last words input bits out₀ mode direction units done₀ t₀ out done t = Through mode direction (session .n) (session .rounds) (session .keys) (session .register) input bits out₀ t done out × (t ≤ units)
+Inv-loop session dec table last words input bits out₀ mode direction units done₀ t₀ out done t = Through mode direction (session .n) (session .m) (session .rounds) (session .keys) (session .register) input bits out₀ t done out × (t ≤ units)
 
 abbrev μ-loop : tie.MeasureT-loop
 μ-loop session dec table last words input bits out₀ mode direction units done₀ t₀ out done t = units - t
@@ -29,18 +29,18 @@ counted : (l : tie.At-loop Inv-loop μ-loop) → l .before .before .units-in .re
 counted l = l .before .before .units-in .ensures
 
 same-size : (l : tie.At-loop Inv-loop μ-loop) → length (l .loop .out) ≡ length (entry l .args .out .now)
-same-size l = through-length (entry l .pre .0) (entry l .pre .1) (register-is (entry l)) (l .loop .t) (rw (counted l) at (l .loop .inv .1)) (l .loop .inv .0)
+same-size l = through-length (entry l .pre .0) (entry l .pre .1) (entry l .args .session .m) (register-is (entry l)) (l .loop .t) (rw (counted l) at (l .loop .inv .1)) (l .loop .inv .0)
 
 units-in-requires : tie.Need-units-in-requires Inv-loop μ-loop
 units-in-requires c κs = search needs
 
 loop-holds : tie.Need-loop-holds Inv-loop μ-loop
-loop-holds c = let s = c .before .before .before .before in (none-through (s .pre .0) (s .pre .1) (register-is s), zero-le)
+loop-holds c = let s = c .before .before .before .before in (none-through (s .pre .0) (s .pre .1) (s .args .session .m) (register-is s), zero-le)
 
 work-unit-requires : tie.Need-work-unit-requires Inv-loop μ-loop
 work-unit-requires c κs =
     let l = c .before .before .before in
-    (still-workable (entry l .pre .0) (entry l .pre .1) (register-is (entry l)) (same-size l), rw (sym (counted l)) (c .before .before .loop-test .taken))
+    (still-workable (entry l .pre .0) (entry l .pre .1) (entry l .args .session .m) (register-is (entry l)) (same-size l), rw (sym (counted l)) (c .before .before .loop-test .taken))
 
 add-runs : tie.Need-add-runs Inv-loop μ-loop
 add-runs c =
@@ -58,7 +58,7 @@ loop-again c =
     let w = c .before .before .before .before .before in
     let l = w .before .before .before .before in (
       rw add-one
-          (one-through (entry l .pre .0) (entry l .pre .1) (register-is (entry l)) (l .loop .t) (rw (counted l) at (w .before .before .before .loop-test .taken))
+          (one-through (entry l .pre .0) (entry l .pre .1) (entry l .args .session .m) (register-is (entry l)) (l .loop .t) (rw (counted l) at (w .before .before .before .loop-test .taken))
           (l .loop .inv .0) (w .work-unit .ensures)),
       omega arith,
     )
@@ -70,7 +70,7 @@ returns : tie.Need-returns Inv-loop μ-loop
 returns c =
     let l = c .before in
     let all : l .loop .t ≡ unitsIn (entry l .args .session .n) (entry l .args .bits) = omega (arith, counted l) in
-    all-through (entry l .pre .0) (entry l .pre .1) (register-is (entry l)) (rw all at (l .loop .inv .0))
+    all-through (entry l .pre .0) (entry l .pre .1) (entry l .args .session .m) (register-is (entry l)) (rw all at (l .loop .inv .0))
 
 pub work-units-spec : {M : Type 1} → statement M
 work-units-spec =

@@ -39,7 +39,7 @@ under : (c : tie.Else1) → let a = entry (c .before .before) .args in Keyed (a 
 unfolding openNumber
 under c =
     let o = c .before .before in
-    let taken = opening-taken Cbc 128 (entry o .args .key .now) (entry o .args .iv .now) (sym (o .«open» .ensures .answer) ∙ opened c) in
+    let taken = opening-taken Cbc 128 128 (entry o .args .key .now) (entry o .args .iv .now) (sym (o .«open» .ensures .answer) ∙ opened c) in
     keyed (key-bytes o) (iv-bytes o) (taken .key-size) (taken .iv-size)
 
 granted : (c : tie.Else2) → let a = entry (c .before .before .before .before) .args in MessageTaken (length (a .input .now)) (a .bits) (length (a .out .now)) (a .place)
@@ -86,6 +86,7 @@ put-message-requires c κs =
     (record {
       mode = refl;
       unit = refl;
+      counter = refl;
       rounds-good = opened-ready (o .«open» .ensures) (opened e) (key-bytes o) (iv-bytes o) .rounds-good;
       not-closed = refl;
       no-units = refl;

@@ -1,6 +1,6 @@
 -- The mode's own function; in ECB and CBC a unit is a whole block. Assumes nothing.
 use mathlib.Core.Logic.{inl, inr}
-use Rattle.units.proofs.TurnLaws.{block-size, stream-size}
+use Rattle.units.proofs.TurnLaws.{any-counter, block-size, stream-size}
 use borrow.Author.Needs.{needs}
 use Rattle.units.proofs.unit.by_mode.Statement.{statement}
 use Rattle.units.proofs.unit.by_mode.Tie as tie
@@ -38,18 +38,18 @@ ctr-requires c κs = stream-size (c .before .before .pre) (inr (inr (c .enum-tol
 returns : tie.Need-returns
 returns c =
     let e = c .before .enum-told .given .1 in
-    rw (e, block-size (c .before .before .before .pre) (inl e)) (c .ecb .ensures)
+    rw (e, block-size (c .before .before .before .pre) (inl e)) (any-counter (λ ctr. cc) (c .ecb .ensures))
 
 returns-2 : tie.Need-returns-2
 returns-2 c =
     let e = c .before .enum-told2 .given .1 in
-    rw (e, block-size (c .before .before .before .pre) (inr e)) (c .cbc .ensures)
+    rw (e, block-size (c .before .before .before .pre) (inr e)) (any-counter (λ ctr. cc) (c .cbc .ensures))
 
 returns-3 : tie.Need-returns-3
-returns-3 c = rw (c .before .enum-told3 .given .1) (c .cfb .ensures)
+returns-3 c = rw (c .before .enum-told3 .given .1) (any-counter (λ ctr. cc) (c .cfb .ensures))
 
 returns-4 : tie.Need-returns-4
-returns-4 c = rw (c .before .enum-told4 .given .1) (c .ofb .ensures)
+returns-4 c = rw (c .before .enum-told4 .given .1) (any-counter (λ ctr. cc) (c .ofb .ensures))
 
 returns-5 : tie.Need-returns-5
 returns-5 c = rw (c .before .enum-told5 .given .1) (c .ctr .ensures)

@@ -23,8 +23,8 @@ arrays-are : (s : tie.Start) → Arrays (s .args .self)
 arrays-are s = record { register = search arrays; keys = search arrays; keys-size = length-unmapped ℕ (s .args .self .keys) 240 (search needs) }
 
 -- an accepted feed's answers
-answers : (c : tie.Else1) → let a = c .before .before .before .before .args in FeedTaken (a .self .mode) (a .self .rounds) (a .self .n) (a .self .closed) (a .self .units) (length (a .input .now)) (a .bits) (length (a .out .now)) (a .place)
-answers c = feed-taken _ _ _ _ _ _ _ _ _ (sym (c .before .feed-number .ensures) ∙ c .if1 .left)
+answers : (c : tie.Else1) → let a = c .before .before .before .before .args in FeedTaken (a .self .mode) (a .self .rounds) (a .self .n) (a .self .m) (a .self .closed) (a .self .units) (length (a .input .now)) (a .bits) (length (a .out .now)) (a .place)
+answers c = feed-taken _ _ _ _ _ _ _ _ _ _ (sym (c .before .feed-number .ensures) ∙ c .if1 .left)
 
 -- the text has as many bits as are fed, and so has what it becomes
 fed-length : (c : tie.Else1) → let a = c .before .before .before .before .args in length (fedText (a .input .now) (a .bits)) ≡ a .bits

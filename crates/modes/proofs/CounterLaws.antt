@@ -1,0 +1,156 @@
+-- No counter block is used twice: over a list of feeds in CTR the registers before the units are the first counter blocks from the
+-- session's own on, and question 15 keeps them to 2^m. Assumes nothing.
+use Prim.Native.Nat.{ℕ, zero, suc, _+_, _^_, _≤_, _<_}
+use mathlib.Core.Path.{_≡_, refl, sym, ap, ap₂, _∙_}
+use mathlib.Core.Bool.{Bool, true, false}
+use mathlib.Core.List.{List, [], _∷_, _++_}
+use native.Mathlib.Nat.{add-zero, add-assoc, div-zero}
+use native.Mathlib.Omega.{arith}
+use borrow.Author.Tests.{eqb-true, eqb-false, leb-true}
+use lib.Dec.{leb}
+use lib.ListN.{length, getD}
+use Rattle.rules.specs.declared.Mode.{Mode}
+use Rattle.rules.specs.declared.Mode.the-variants.{Ctr}
+use Rattle.rules.specs.Lengths.{counterLengthOk}
+use Rattle.rules.specs.Rules.{unitsIn, registerAt}
+use Rattle.rules.specs.Standard.{counter}
+use Rattle.rules.proofs.Counts.{units-none}
+use Rattle.rules.proofs.Counters.{ctr-register, counter-add, counter-distinct}
+use Rattle.questions.proofs.QuestionLaws.{both-true}
+use Rattle.modes.specs.declared.session.Session.{Session}
+use Rattle.modes.specs.Sessions.{Arrays, openedSession, sessionRegister, fedSession}
+use Rattle.modes.specs.Lists.{Call, Run, done, fed, accepted, fedBits, allFed, along, registersUsed}
+use Rattle.modes.specs.Promises.{RefusedUnchanged}
+use Rattle.modes.specs.Counters.{EachOnce, CounterBlocksDiffer, OpenedBlocksDiffer}
+use Rattle.modes.proofs.SessionLaws.{encBy, decBy, fed-ready}
+use Rattle.modes.proofs.FeedLaws.{refused-unchanged, asked, accepted-count, accepted-whole, accepted-session, accepted-ready}
+use Rattle.modes.proofs.RunLaws.{accepted-fed, ended}
+use Rattle.modes.proofs.OpeningLaws.{opened-session, opened-ready}
+use Rattle.modes.proofs.RegisterLaws.{along-length, along-at, along-same, along-add}
+
+-- The first k counter blocks.
+blocks : ℕ → List ℕ → ℕ → List (List ℕ)
+blocks m r k = along k (counter m r)
+
+-- k units from the session s to t, and the counter blocks that they used.
+record Used (s : Session) (calls : List Call) (t : Session) : Type 0 where
+  pub k : ℕ
+  pub used : registersUsed s calls ≡ blocks (s .m) (s .register) k
+  pub counted : t .units ≡ s .units + k
+  pub within : 0 < k → (s .m ≤ 128) × (s .units + k ≤ 2 ^ s .m)
+
+counter-bound : (mode : Mode) (m : ℕ) → mode ≡ Ctr → counterLengthOk mode m ≡ true → m ≤ 128
+unfolding counterLengthOk
+counter-bound mode m ctr ok = leb-true m 128 (both-true (leb 1 m) (leb m 128) (rw ctr at ok) .1)
+
+-- A bound that is known where something was added, and one that holds where nothing was.
+bounded : (a k : ℕ) {b : ℕ} → a ≤ b → (0 < k → a + k ≤ b) → a + k ≤ b
+bounded a zero none some = omega arith
+bounded a (suc k) none some = some (omega arith)
+
+no-units : (n : ℕ) → unitsIn n 0 ≡ 0
+unfolding unitsIn
+no-units zero = rw div-zero
+no-units (suc n) = units-none (omega arith)
+
+-- ---- one call, before a list that is counted already
+
+register-counts : (s : Session) → s .mode ≡ Ctr → (x : List Bool) (u : ℕ) → sessionRegister s x u ≡ counter (s .m) (s .register) u
+unfolding sessionRegister
+register-counts s ctr x u =
+    ap (λ (mode : Mode). registerAt (encBy s) (decBy s) mode (s .direction) (s .n) (s .m) (s .register) x u) ctr
+    ∙ ctr-register (encBy s) (decBy s) (s .direction) (s .n) (s .m) (s .register) x u
+
+module _ {s t : Session} {c : Call} {cs : List Call} where
+  refused-used : fedBits c ≡ [] → Used s cs t → c .result .session ≡ s → Used s (c ∷ cs) t
+  unfolding registersUsed along
+  refused-used none q same =
+      record {
+        k = q .k;
+        used = rw (none, no-units (s .n), same) (q .used);
+        counted = q .counted;
+        within = q .within;
+      }
+
+  accepted-used : s .mode ≡ Ctr → (x : List Bool) → fedBits c ≡ x → s .m ≤ 128 → s .units + unitsIn (s .n) (length x) ≤ 2 ^ s .m → Used (fedSession s x) cs t
+      → c .result .session ≡ fedSession s x → Used s (c ∷ cs) t
+  unfolding registersUsed fedSession blocks
+  accepted-used ctr x text fits below q same =
+      let new = unitsIn (s .n) (length x) in
+      record {
+        k = new + q .k;
+        used =
+            rw (text, same, q .used, along-add)
+            (ap₂ _++_ (along-same new (λ u h. register-counts s ctr x u))
+            (along-same (q .k) (λ u h. ap (λ b. counter (s .m) b u) (register-counts s ctr x new) ∙ sym (counter-add (s .m) (s .register) new u))));
+        counted = q .counted ∙ add-assoc (s .units) new (q .k);
+        within = λ some. (fits, rw (← add-assoc) (bounded (s .units + new) (q .k) below (λ more. q .within more .1)));
+      }
+
+-- ---- a list of calls
+
+used-list : {s t : Session} {calls : List Call} → Run s calls t → s .mode ≡ Ctr → Arrays s → Used s calls t
+unfolding registersUsed blocks along accepted fedBits RefusedUnchanged fedSession
+used-list {s} done ctr arrays = record { k = 0; used = refl; counted = sym (add-zero (s .units)); within = λ some. absurd (omega arith) }
+used-list {s} {t} (fed {c = c} {cs = cs} f run) ctr arrays = by-answer (accepted c) refl (used-list run)
+  where
+    by-answer : (b : Bool) → accepted c ≡ b → (c .result .session .mode ≡ Ctr → Arrays (c .result .session) → Used (c .result .session) cs t) → Used s (c ∷ cs) t
+    by-answer false e rest =
+        let same = refused-unchanged s (c .input) (c .count) (c .out) (c .place) (c .result) (c .after) f (eqb-false (c .result .number) 0 e) .0 in
+        refused-used (rw e) ((rw same at rest) ctr arrays) same
+    by-answer true e rest =
+        let number = eqb-true (c .result .number) 0 e in
+        let a = asked f number in
+        let same = accepted-session f number in
+        let ready = fed-ready (accepted-ready f number arrays) _ (accepted-whole f number) in
+        accepted-used ctr _ (accepted-fed c e) (counter-bound (s .mode) (s .m) ctr (a .counter)) (rw (accepted-count f number) (a .blocks))
+        ((rw same at rest) ctr (ready .arrays)) same
+
+-- ---- the promises
+
+each-once : {s t : Session} {calls : List Call} → Used s calls t → Arrays s → EachOnce s calls t
+unfolding blocks
+each-once {s} {t} {calls} q arrays =
+    let long : length (registersUsed s calls) ≡ q .k = ap length (q .used) ∙ along-length (q .k) (counter (s .m) (s .register)) in
+    record {
+      different = λ i j before inside same.
+          let (fits, below) = q .within (omega arith) in
+          let at : (u : ℕ) → u < q .k → getD (registersUsed s calls) u [] ≡ counter (s .m) (s .register) u =
+          λ u h. ap (λ l. getD l u []) (q .used) ∙ along-at (q .k) (counter (s .m) (s .register)) [] u h
+          in
+          let e : i ≡ j = counter-distinct fits (arrays .register) i j (omega arith) (omega arith) (sym (at i (omega arith)) ∙ same ∙ at j (omega arith)) in
+          omega arith;
+      counted = q .counted ∙ ap (λ k. s .units + k) (sym long);
+      at-most = omega (arith, bounded 0 (q .k) {b = 2 ^ s .m} (omega arith) (λ more. omega (arith, q .within more .1)));
+    }
+
+pub counter-blocks-differ : CounterBlocksDiffer
+unfolding CounterBlocksDiffer
+counter-blocks-differ s t calls ctr arrays run = each-once (used-list run ctr arrays) arrays
+
+-- Units that were at most 2^m stay so.
+still-few : {s t : Session} {calls : List Call} → Used s calls t → s .units ≤ 2 ^ s .m → t .units ≤ 2 ^ s .m
+still-few {s} q few = rw (q .counted) (bounded (s .units) (q .k) few (λ more. q .within more .1))
+
+-- Two lists, one behind the other, are a list.
+run-append : {s t u : Session} {calls more : List Call} → Run s calls t → Run t more u → Run s (calls ++ more) u
+run-append done rest = rest
+run-append (fed f run) rest = fed f (run-append run rest)
+
+pub opened-blocks-differ : OpenedBlocksDiffer
+unfolding OpenedBlocksDiffer openedSession fedSession
+opened-blocks-differ dir n m key iv r before calls s t key-bytes iv-bytes opening accepted run rest =
+    let first = opened-session opening accepted in
+    let ready = opened-ready opening accepted key-bytes iv-bytes in
+    let one = ended (rw first at run) ready in
+    let later : s ≡ fedSession (openedSession Ctr dir n m key iv) (allFed before) = one .as-one refl .session in
+    let here = fed-ready ready (allFed before) (one .as-one refl .whole) .arrays in
+    let p = used-list (rw first at run) refl (ready .arrays) in
+    let q = used-list (rw later at rest) refl here in
+    let all = used-list (rw first at (run-append run rest)) refl (ready .arrays) in
+    let few : s .units ≤ 2 ^ m = still-few p (omega arith) in
+    record {
+      in-all = rw first (each-once all (ready .arrays));
+      from-here = rw later (each-once q here);
+      units = still-few q (rw later at few);
+    }
