@@ -142,6 +142,16 @@ def counted(r, m):
     return (upper * 2 ** m + (lower + 1) % 2 ** m).to_bytes(16, 'big')
 
 
+# request 06: the number, and how many increments of the IV give the block
+def place(m, iv, block):
+    if not counter_ok('CTR', m):
+        return 14, bytes(16)
+    (iv_upper, iv_lower), (upper, lower) = (divmod(int.from_bytes(b, 'big'), 2 ** m) for b in (iv, block))
+    if upper != iv_upper:
+        return 16, bytes(16)
+    return 0, ((lower - iv_lower) % 2 ** m).to_bytes(16, 'big')
+
+
 # a unit of bits: what it becomes, and R after it
 def unit(s, r, u):
     mode, key, encrypting = s['mode'], s['key'], s['way'] == 'E'

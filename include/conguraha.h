@@ -41,7 +41,7 @@ extern "C" {
 enum conguraha_mode { CONGURAHA_ECB, CONGURAHA_CBC, CONGURAHA_CFB, CONGURAHA_OFB, CONGURAHA_CTR };
 
 /* A call asks its questions in the order of these lines, CONGURAHA_NO_MODE before all others, and answers the first that fails.
-   10 is reserved, and 11 and 13 belong to questions that no call of this file asks. */
+   10 is reserved, and 11, 13 and 16 belong to questions that no call of this file asks. */
 enum conguraha_answer {
     CONGURAHA_OK = 0,
     /* of keys and openings */

@@ -7,7 +7,7 @@ import re
 import sys
 
 sys.path.insert(0, os.path.join(os.path.dirname(os.path.abspath(__file__)), '..', '..', 'harness'))
-from document01 import MAX_BITS, REFUSED, feed, forecast, neighbour, opening, pad, single_block, steal, unpad
+from document01 import MAX_BITS, REFUSED, counted, feed, forecast, neighbour, opening, pad, place, single_block, steal, unpad
 
 
 # the lines
@@ -31,6 +31,12 @@ def read_bytes(word, most):
     if not re.fullmatch('([0-9a-f]{2})+', word) or len(word) > 2 * most:
         raise Bad
     return bytes.fromhex(word)
+
+
+def read_block(word):
+    if len(word) != 32:
+        raise Bad
+    return read_bytes(word, 16)
 
 
 def read_one_of(word, words):
@@ -79,6 +85,10 @@ class Replay:
         number, size, runs = forecast(read_one_of(mode, MODES), read_number(n), read_number(count))
         return f'{number} {size} {runs}'
 
+    def place(self, m, iv, block):
+        number, increments = place(read_number(m), read_block(iv), read_block(block))
+        return f'{number} {increments.hex()}'
+
     def pad(self, count, size, place, fill, data):
         out = read_fill(fill) * read_number(size, LONGEST)
         number, length, out = pad(read_bytes(data, LONGEST), read_number(count), out, read_number(place))
@@ -112,8 +122,8 @@ class Replay:
         same = all(self.session[k] == self.kept[k] for k in ('mode', 'way', 'n', 'm', 'key', 'r'))
         return 'yes' if same else 'no'
 
-    COMMANDS = {'open': 5, 'open-counter': 6, 'feed': 5, 'forecast': 3, 'pad': 5, 'unpad': 2, 'neighbour': 3, 'block': 7,
-                'steal': 8, 'keep': 0, 'alike': 0}
+    COMMANDS = {'open': 5, 'open-counter': 6, 'feed': 5, 'forecast': 3, 'place': 3, 'pad': 5, 'unpad': 2, 'neighbour': 3,
+                'block': 7, 'steal': 8, 'keep': 0, 'alike': 0}
 
     def line(self, line):
         name, *words = line.split(' ')
@@ -193,6 +203,22 @@ def forecast_lines():
                 yield f'forecast {mode} {n} {count}'
 
 
+# the edges of m: the IV itself, blocks above and below it, and blocks with other upper bits; then the R of a session before each feed
+def place_lines():
+    ones, high = 'ff' * 16, '80' + '00' * 15
+    for m in (0, 1, 3, 7, 8, 9, 13, 127, 128, 129, 200, 2 ** 64 - 1):
+        for block in (IV, IV[:31] + 'e', IV[:28] + '0d00', IV[:28] + '1e0f', TEXT[:32], ones, high):
+            yield from (f'place {m} {IV} {block}', f'place {m} {block} {IV}')
+        yield from (f'place {m} {ones} {"00" * 16}', f'place {m} {ones} {high}')
+    for m, iv in ((3, ones[:31] + 'd'), (128, ones[:31] + 'e')):
+        yield f'open-counter CTR 128 {m} E {KEY} {iv}'
+        r = bytes.fromhex(iv)
+        for _ in range(9):
+            yield from (f'place {m} {iv} {r.hex()}', f'feed 128 16 0 ee {TEXT}')
+            r = counted(r, m)
+    yield from (f'place 0008 {IV} {IV}', f'place 0 {IV} -', f'place 0 {IV}00 {IV}')
+
+
 def text_lines():
     for count in (0, 1, 7, 8, 127, 128, 129, 255, 256):
         yield f'pad {count} 49 1 ee {TEXT}'
@@ -233,14 +259,15 @@ def steal_lines():
 # a good line, and it with a word left out, added, doubled by a space or changed
 def bad_lines():
     good = (f'open-counter CTR 128 8 E {KEY} {IV}', f'open CFB 8 E {KEY} {IV}', f'feed 8 2 1 ee {IV}', 'forecast CFB 3 9',
-            f'pad 8 16 0 ee {IV}', f'unpad 128 {IV}', f'neighbour {IV} {IV} 0', f'block {KEY} {IV} {IV} 0 16 0 ee',
-            f'steal E {KEY} {IV} 136 18 1 ee {TEXT}', 'keep', 'alike')
+            f'place 8 {IV} {IV}', f'pad 8 16 0 ee {IV}', f'unpad 128 {IV}', f'neighbour {IV} {IV} 0',
+            f'block {KEY} {IV} {IV} 0 16 0 ee', f'steal E {KEY} {IV} 136 18 1 ee {TEXT}', 'keep', 'alike')
     numbers = ('', '-', '-1', '+1', '0x8', '1a', '18446744073709551616', '99999999999999999999', '1.0', '8\r', '8\t')
     data = ('', '0', '000', '0A', 'AB', '0g', '--', '-00', '0-', '0x', '/0', ':0', '`0', 'g0', '\x80\x80', '\0\0')
-    kinds = {'open': 'mnwbb', 'open-counter': 'mnnwbb', 'feed': 'nnnfb', 'forecast': 'mnn', 'pad': 'nnnfb', 'unpad': 'nb',
-             'neighbour': 'bbn', 'block': 'bbbnnnf', 'steal': 'wbbnnnfb'}
+    kinds = {'open': 'mnwbb', 'open-counter': 'mnnwbb', 'feed': 'nnnfb', 'forecast': 'mnn', 'place': 'nss', 'pad': 'nnnfb',
+             'unpad': 'nb', 'neighbour': 'bbn', 'block': 'bbbnnnf', 'steal': 'wbbnnnfb'}
     wrong = {'m': ('', 'ecb', 'CBCX', 'CB', 'Ecb', '-'), 'n': numbers, 'w': ('', 'e', 'd', 'ED', 'F', '-'),
-             'b': data, 'f': data + ('-', '000000', 'e')}
+             'b': data, 'f': data + ('-', '000000', 'e'),
+             's': data + ('-', IV[2:], IV[1:], IV + '0', IV + '00', IV * 2, IV[:30] + '0F', IV[:31] + 'g', '-' + IV[1:])}
     yield from ('', ' ', '  ', '?', 'close', 'Open', 'opens', 'kee', 'keep\0', '\r', '\xff', f'open_counter CTR 128 8 E {KEY} {IV}',
                 f'open-counters CTR 128 8 E {KEY} {IV}')
     for line in good:
@@ -297,8 +324,8 @@ def random_lines():
 
 def main():
     if sys.argv[1:] == ['lines']:
-        for lines in (first_lines, mode_lines, question_lines, counter_lines, forecast_lines, text_lines, steal_lines, bad_lines,
-                      random_lines, long_lines):
+        for lines in (first_lines, mode_lines, question_lines, counter_lines, forecast_lines, place_lines, text_lines, steal_lines,
+                      bad_lines, random_lines, long_lines):
             for line in lines():
                 sys.stdout.buffer.write(line.encode('latin-1') + b'\n')
         # the last line has no line feed

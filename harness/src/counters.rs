@@ -2,7 +2,7 @@
 // against counter blocks that are computed as numbers and encrypted by OpenSSL, and against the reference for all arguments.
 use crate::openssl::{Direction, Key};
 use crate::rattle::Session;
-use crate::reference::{self, parts, Mode, MAX_BITS, MAX_UNITS, MODES};
+use crate::reference::{self, counting, parts, Mode, MAX_BITS, MAX_UNITS, MODES};
 use crate::report::{equal, hex, Outcome, Report};
 use crate::rng::Rng;
 use crate::sessions::{same, Feed, DIRECTIONS, KEY_LENGTHS};
@@ -17,7 +17,17 @@ const WALKED: usize = 16;
 const KEPT: usize = 12;
 
 // Numbers that are no m.
-const NO_COUNTER: [usize; 7] = [0, 129, 130, 255, 256 + 13, (1 << 32) + 32, usize::MAX];
+pub const NO_COUNTER: [usize; 9] = [
+    0,
+    129,
+    130,
+    255,
+    256,
+    256 + 13,
+    1 << 32,
+    (1 << 32) + 32,
+    usize::MAX,
+];
 
 pub fn run(report: &mut Report) {
     for length in KEY_LENGTHS {
@@ -57,21 +67,16 @@ pub fn run(report: &mut Report) {
     report.test("a session held with any m is fed as the reference's", held);
 }
 
-// The bits that count, in a block as a number.
-fn counting(m: usize) -> u128 {
-    u128::MAX >> (128 - m)
-}
-
 // Counter block t of a message (SP 800-38A, appendix B.1, by its index).
-fn counter_block(iv: &[u8; 16], m: usize, t: usize) -> [u8; 16] {
+pub fn counter_block(iv: &[u8; 16], m: usize, t: u128) -> [u8; 16] {
     let first = u128::from_be_bytes(*iv);
-    let count = first.wrapping_add(t as u128) & counting(m);
+    let count = first.wrapping_add(t) & counting(m);
     (first & !counting(m) | count).to_be_bytes()
 }
 
 // Any IV, or one whose counter wraps at once or soon. Where its other bits are 1 too, a carry out of the counter would reach
 // all of them.
-fn any_iv(rng: &mut Rng, m: usize) -> [u8; 16] {
+pub fn any_iv(rng: &mut Rng, m: usize) -> [u8; 16] {
     let mut iv = u128::from_be_bytes(rng.block());
     match rng.below(3) {
         0 => {}
@@ -162,7 +167,7 @@ fn texts(
             },
             (
                 hex(&expected),
-                hex(&counter_block(&iv, m, units)),
+                hex(&counter_block(&iv, m, units as u128)),
                 units,
                 bits % 128 != 0,
             ),
@@ -192,7 +197,7 @@ fn as_tomcrypt(rng: &mut Rng, length: usize, direction: Direction) -> Outcome {
 // The text under the counter blocks of an IV, from block t on.
 fn under_counter_blocks(key: &Key, iv: &[u8; 16], m: usize, t: usize, text: &[u8]) -> Vec<u8> {
     let block = |(i, unit): (usize, &[u8])| -> Vec<u8> {
-        let mask = key.enc(&counter_block(iv, m, t + i));
+        let mask = key.enc(&counter_block(iv, m, (t + i) as u128));
         unit.iter().zip(mask).map(|(a, b)| a ^ b).collect()
     };
     text.chunks(16).enumerate().flat_map(block).collect()

@@ -5,6 +5,7 @@ mod cost;
 mod counters;
 mod modeline;
 mod openssl;
+mod place;
 mod process;
 mod rattle;
 mod reference;
@@ -27,6 +28,7 @@ fn main() {
     stack::run(&mut report);
     replay::run(&mut report);
     stealing::run(&mut report);
+    place::run(&mut report);
     modeline::run(&mut report);
     unpad::run(&mut report);
     if !report.end() {

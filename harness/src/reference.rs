@@ -50,12 +50,28 @@ impl Mode {
     }
 }
 
+// The bits that count, in a block as a number: 2^m - 1.
+pub fn counting(m: usize) -> u128 {
+    u128::MAX >> (128 - m)
+}
+
 // The block whose lowest m bits, as a number, are one higher modulo 2^m, and whose other bits are the same (SP 800-38A, appendix
 // B.1).
 pub fn incremented(block: [u8; 16], m: usize) -> [u8; 16] {
     let number = u128::from_be_bytes(block);
-    let counter = u128::MAX >> (128 - m);
-    (number & !counter | number.wrapping_add(1) & counter).to_be_bytes()
+    (number & !counting(m) | number.wrapping_add(1) & counting(m)).to_be_bytes()
+}
+
+// How many increments lead from the IV to a counter block (request 06): the number, and the place.
+pub fn place(m: usize, iv: [u8; 16], block: [u8; 16]) -> (u8, [u8; 16]) {
+    if !Mode::Ctr.takes_counter(m) {
+        return (14, [0; 16]);
+    }
+    let (first, reached) = (u128::from_be_bytes(iv), u128::from_be_bytes(block));
+    if first & !counting(m) != reached & !counting(m) {
+        return (16, [0; 16]);
+    }
+    (0, (reached.wrapping_sub(first) & counting(m)).to_be_bytes())
 }
 
 // How many parts of a size cover a length, the last one perhaps shorter.

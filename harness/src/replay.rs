@@ -110,7 +110,7 @@ impl Script {
         self.line(line, number.to_string());
     }
 
-    fn open_counter(
+    pub fn open_counter(
         &mut self,
         mode: Mode,
         direction: Direction,
@@ -131,7 +131,7 @@ impl Script {
         self.line(line, number.to_string());
     }
 
-    fn feed(&mut self, feed: &Feed) {
+    pub fn feed(&mut self, feed: &Feed) {
         let mut out = feed.out.clone();
         let (number, runs) = self
             .session
@@ -204,7 +204,7 @@ fn any_n(rng: &mut Rng, mode: Mode) -> usize {
 }
 
 // The bits of a counter: few, so that 2^m units are soon done, and the edges of bytes and words are frequent.
-fn any_m(rng: &mut Rng, mode: Mode) -> usize {
+pub fn any_m(rng: &mut Rng, mode: Mode) -> usize {
     match mode {
         Mode::Ctr => match rng.below(3) {
             0 => 1 + rng.below(4),
@@ -702,6 +702,46 @@ const BAD_LINES: &[&str] = &[
     "feed 8 1 0 00 00\0",
 ];
 
+// Lines of `place` that have a word too few or too many, or a wrong one. B stands for 16 bytes.
+fn bad_places() -> Vec<String> {
+    let block = "5a".repeat(16);
+    let mut lines: Vec<String> = [
+        "place",
+        "place ",
+        "place 8",
+        "place 8 B",
+        "place B B",
+        "place B B 8",
+        "place 8 BB",
+        "place 8 B  B",
+        "place 8 B B ",
+        "place 8 B B 5a",
+        "place 8 B B B",
+        "place 8\tB B",
+        "place 8 B B\r",
+        "Place 8 B B",
+        "plac 8 B B",
+        "places 8 B B",
+    ]
+    .iter()
+    .map(|line| line.replace('B', &block))
+    .collect();
+    for m in ["", "x", "-", "-1", "8x", "0x8", "18446744073709551616"] {
+        lines.push(format!("place {m} {block} {block}"));
+    }
+    for bytes in [0, 1, 15, 17, 32, MAX_BYTES] {
+        let other = word(&vec![0x5a; bytes]);
+        lines.push(format!("place 8 {other} {block}"));
+        lines.push(format!("place 8 {block} {other}"));
+    }
+    for end in ["5", "5A", "5g", "5a5", "--"] {
+        let other = format!("{}{end}", &block[2..]);
+        lines.push(format!("place 8 {other} {block}"));
+        lines.push(format!("place 8 {block} {other}"));
+    }
+    lines
+}
+
 fn bad_lines(rng: &mut Rng) -> Outcome {
     let long = "0".repeat(MAX_LINE);
     let bad: Vec<String> = BAD_LINES
@@ -718,6 +758,7 @@ fn bad_lines(rng: &mut Rng) -> Outcome {
             "x".repeat(1_000_000),
             "feed ".repeat(100_000),
         ])
+        .chain(bad_places())
         .collect();
     let mut script = Script::new();
     let (key, iv) = (any_key(rng), rng.bytes(16));

@@ -35,7 +35,7 @@ unfolding number
 number-lt [] h = lit< tt
 number-lt (b ∷ bs) h = rw pow-succ' (digits-lt (h .byte 0) (number-lt bs (tail-bytes h)))
 
-digits-inj : (m : ℕ) {q r q′ r′ : ℕ} → r < m → r′ < m → q * m + r ≡ q′ * m + r′ → (q ≡ q′) × (r ≡ r′)
+pub digits-inj : (m : ℕ) {q r q′ r′ : ℕ} → r < m → r′ < m → q * m + r ≡ q′ * m + r′ → (q ≡ q′) × (r ≡ r′)
 digits-inj m {q} {r} {q′} {r′} h h′ e =
     (sym (digits-div q h) ∙ ap (λ (n : ℕ). n / m) e ∙ digits-div q′ h′, sym (digits-mod q h) ∙ ap (λ (n : ℕ). n % m) e ∙ digits-mod q′ h′)
 

@@ -6,17 +6,15 @@ use mathlib.Core.Bool.{Bool, true, false}
 use mathlib.Core.List.{List, [], _∷_, _++_}
 use native.Mathlib.Nat.{add-zero, add-assoc, div-zero}
 use native.Mathlib.Omega.{arith}
-use borrow.Author.Tests.{eqb-true, eqb-false, leb-true}
-use lib.Dec.{leb}
+use borrow.Author.Tests.{eqb-true, eqb-false}
 use lib.ListN.{length, getD}
 use Rattle.rules.specs.declared.Mode.{Mode}
 use Rattle.rules.specs.declared.Mode.the-variants.{Ctr}
-use Rattle.rules.specs.Lengths.{counterLengthOk}
 use Rattle.rules.specs.Rules.{unitsIn, registerAt}
 use Rattle.rules.specs.Standard.{counter}
 use Rattle.rules.proofs.Counts.{units-none}
 use Rattle.rules.proofs.Counters.{ctr-register, counter-add, counter-distinct}
-use Rattle.questions.proofs.QuestionLaws.{both-true}
+use Rattle.rules.proofs.Taken.{counter-bounds}
 use Rattle.modes.specs.declared.session.Session.{Session}
 use Rattle.modes.specs.Sessions.{Arrays, openedSession, sessionRegister, fedSession}
 use Rattle.modes.specs.Lists.{Call, Run, done, fed, accepted, fedBits, allFed, along, registersUsed}
@@ -37,11 +35,7 @@ record Used (s : Session) (calls : List Call) (t : Session) : Type 0 where
   pub k : ℕ
   pub used : registersUsed s calls ≡ blocks (s .m) (s .register) k
   pub counted : t .units ≡ s .units + k
-  pub within : 0 < k → (s .m ≤ 128) × (s .units + k ≤ 2 ^ s .m)
-
-counter-bound : (mode : Mode) (m : ℕ) → mode ≡ Ctr → counterLengthOk mode m ≡ true → m ≤ 128
-unfolding counterLengthOk
-counter-bound mode m ctr ok = leb-true m 128 (both-true (leb 1 m) (leb m 128) (rw ctr at ok) .1)
+  pub within : 0 < k → (0 < s .m) × (s .m ≤ 128) × (s .units + k ≤ 2 ^ s .m)
 
 -- A bound that is known where something was added, and one that holds where nothing was.
 bounded : (a k : ℕ) {b : ℕ} → a ≤ b → (0 < k → a + k ≤ b) → a + k ≤ b
@@ -72,7 +66,7 @@ module _ {s t : Session} {c : Call} {cs : List Call} where
         within = q .within;
       }
 
-  accepted-used : s .mode ≡ Ctr → (x : List Bool) → fedBits c ≡ x → s .m ≤ 128 → s .units + unitsIn (s .n) (length x) ≤ 2 ^ s .m → Used (fedSession s x) cs t
+  accepted-used : s .mode ≡ Ctr → (x : List Bool) → fedBits c ≡ x → (0 < s .m) × (s .m ≤ 128) → s .units + unitsIn (s .n) (length x) ≤ 2 ^ s .m → Used (fedSession s x) cs t
       → c .result .session ≡ fedSession s x → Used s (c ∷ cs) t
   unfolding registersUsed fedSession blocks
   accepted-used ctr x text fits below q same =
@@ -84,7 +78,7 @@ module _ {s t : Session} {c : Call} {cs : List Call} where
             (ap₂ _++_ (along-same new (λ u h. register-counts s ctr x u))
             (along-same (q .k) (λ u h. ap (λ b. counter (s .m) b u) (register-counts s ctr x new) ∙ sym (counter-add (s .m) (s .register) new u))));
         counted = q .counted ∙ add-assoc (s .units) new (q .k);
-        within = λ some. (fits, rw (← add-assoc) (bounded (s .units + new) (q .k) below (λ more. q .within more .1)));
+        within = λ some. (fits .0, fits .1, rw (← add-assoc) (bounded (s .units + new) (q .k) below (λ more. q .within more .2)));
       }
 
 -- ---- a list of calls
@@ -103,25 +97,45 @@ used-list {s} {t} (fed {c = c} {cs = cs} f run) ctr arrays = by-answer (accepted
         let a = asked f number in
         let same = accepted-session f number in
         let ready = fed-ready (accepted-ready f number arrays) _ (accepted-whole f number) in
-        accepted-used ctr _ (accepted-fed c e) (counter-bound (s .mode) (s .m) ctr (a .counter)) (rw (accepted-count f number) (a .blocks))
+        accepted-used ctr _ (accepted-fed c e) (counter-bounds (s .mode) (s .m) (a .counter)) (rw (accepted-count f number) (a .blocks))
         ((rw same at rest) ctr (ready .arrays)) same
+
+-- the register before unit u
+used-at : {s t : Session} {calls : List Call} (q : Used s calls t) (u : ℕ) → u < q .k → getD (registersUsed s calls) u [] ≡ counter (s .m) (s .register) u
+unfolding blocks
+used-at {s} q u h = ap (λ l. getD l u []) (q .used) ∙ along-at (q .k) (counter (s .m) (s .register)) [] u h
+
+used-length : {s t : Session} {calls : List Call} (q : Used s calls t) → length (registersUsed s calls) ≡ q .k
+unfolding blocks
+used-length {s} q = ap length (q .used) ∙ along-length (q .k) (counter (s .m) (s .register))
+
+-- The block is the session's R counted up u times, and u is below 2^m.
+pub record CountedUp (s : Session) (u : ℕ) (block : List ℕ) : Type 0 where
+  pub some : 0 < s .m
+  pub fits : s .m ≤ 128
+  pub below : u < 2 ^ s .m
+  pub there : block ≡ counter (s .m) (s .register) u
+
+pub counted-up : {s t : Session} {calls : List Call} → s .mode ≡ Ctr → Arrays s → Run s calls t → (u : ℕ) → u < length (registersUsed s calls)
+    → CountedUp s u (getD (registersUsed s calls) u [])
+counted-up ctr arrays run u inside =
+    let q = used-list run ctr arrays in
+    let h : u < q .k = rw (used-length q) at inside in
+    let (some, fits, below) = q .within (omega arith) in
+    record { some = some; fits = fits; below = omega arith; there = used-at q u h }
 
 -- ---- the promises
 
 each-once : {s t : Session} {calls : List Call} → Used s calls t → Arrays s → EachOnce s calls t
-unfolding blocks
 each-once {s} {t} {calls} q arrays =
-    let long : length (registersUsed s calls) ≡ q .k = ap length (q .used) ∙ along-length (q .k) (counter (s .m) (s .register)) in
+    let long = used-length q in
     record {
       different = λ i j before inside same.
-          let (fits, below) = q .within (omega arith) in
-          let at : (u : ℕ) → u < q .k → getD (registersUsed s calls) u [] ≡ counter (s .m) (s .register) u =
-          λ u h. ap (λ l. getD l u []) (q .used) ∙ along-at (q .k) (counter (s .m) (s .register)) [] u h
-          in
-          let e : i ≡ j = counter-distinct fits (arrays .register) i j (omega arith) (omega arith) (sym (at i (omega arith)) ∙ same ∙ at j (omega arith)) in
+          let (some, fits, below) = q .within (omega arith) in
+          let e : i ≡ j = counter-distinct fits (arrays .register) i j (omega arith) (omega arith) (sym (used-at q i (omega arith)) ∙ same ∙ used-at q j (omega arith)) in
           omega arith;
       counted = q .counted ∙ ap (λ k. s .units + k) (sym long);
-      at-most = omega (arith, bounded 0 (q .k) {b = 2 ^ s .m} (omega arith) (λ more. omega (arith, q .within more .1)));
+      at-most = omega (arith, bounded 0 (q .k) {b = 2 ^ s .m} (omega arith) (λ more. omega (arith, q .within more .2)));
     }
 
 pub counter-blocks-differ : CounterBlocksDiffer
@@ -130,7 +144,7 @@ counter-blocks-differ s t calls ctr arrays run = each-once (used-list run ctr ar
 
 -- Units that were at most 2^m stay so.
 still-few : {s t : Session} {calls : List Call} → Used s calls t → s .units ≤ 2 ^ s .m → t .units ≤ 2 ^ s .m
-still-few {s} q few = rw (q .counted) (bounded (s .units) (q .k) few (λ more. q .within more .1))
+still-few {s} q few = rw (q .counted) (bounded (s .units) (q .k) few (λ more. q .within more .2))
 
 -- Two lists, one behind the other, are a list.
 run-append : {s t u : Session} {calls more : List Call} → Run s calls t → Run t more u → Run s (calls ++ more) u

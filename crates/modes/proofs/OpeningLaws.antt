@@ -42,7 +42,7 @@ module _ {mode : Mode} {dir : Direction} {n m : ℕ} {key iv : List ℕ} {r : Op
   number-zero : openNumber mode n m key iv ≡ 0
   number-zero = sym (opening .answer) ∙ accepted
 
-  asked : OpeningTaken mode n m key iv
+  pub asked : OpeningTaken mode n m key iv
   unfolding openNumber
   asked = opening-taken mode n m key iv number-zero
 

@@ -1,4 +1,5 @@
 // A line's command: named by its first word and the count of its words, then run.
+use crate::counters;
 use crate::print;
 use crate::sessions;
 use crate::state::State;
@@ -11,6 +12,7 @@ pub enum Command {
     OpenCounter,
     Feed,
     Forecast,
+    Place,
     Pad,
     Unpad,
     Neighbour,
@@ -43,6 +45,9 @@ fn named(line: &[u8]) -> Command {
     }
     if is(name, count, b"forecast", 4) {
         return Command::Forecast;
+    }
+    if is(name, count, b"place", 4) {
+        return Command::Place;
     }
     if is(name, count, b"pad", 6) {
         return Command::Pad;
@@ -97,6 +102,7 @@ pub fn run(
         Command::OpenCounter => sessions::open_counter(line, text, state),
         Command::Feed => sessions::feed(line, input, out, text, state),
         Command::Forecast => state.with_end(sessions::forecast(line, text, end)),
+        Command::Place => state.with_end(counters::place(line, text, end)),
         Command::Pad => state.with_end(texts::pad(line, input, out, text, end)),
         Command::Unpad => state.with_end(texts::unpad(line, input, text, end)),
         Command::Neighbour => state.with_end(texts::neighbour(line, input, text, end)),

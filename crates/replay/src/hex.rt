@@ -17,6 +17,12 @@ pub struct Short {
     pub bytes: [u8; 64],
 }
 
+// The block that a word spells, if it is good.
+pub struct Block {
+    pub good: bool,
+    pub bytes: [u8; 16],
+}
+
 // Writes the bytes that the word spells to the front of `space`, and answers how many; `-` spells none. A word that is not
 // of this form, or spells more than `space` holds, gives a count above that of `space`.
 pub fn bytes(word: &[u8], space: &mut [u8]) -> usize {
@@ -80,4 +86,14 @@ pub fn one_byte(word: &[u8]) -> Byte {
     }
     grammar::decode(word, &mut value);
     Byte::Value(value[0])
+}
+
+// 32 digits.
+pub fn one_block(word: &[u8]) -> Block {
+    let mut space = [0u8; 16];
+    let good = word.len() == 32 && grammar::all_digits(word);
+    if good {
+        grammar::decode(word, &mut space);
+    }
+    Block { good, bytes: space }
 }

@@ -6,6 +6,7 @@
 //     open-counter MODE N M E|D KEY IV               NUMBER
 //     feed BITS OUTLEN PLACE FILL INPUT              NUMBER OUT R UNITS CLOSED RUNS
 //     forecast MODE N BITS                           NUMBER BYTES RUNS
+//     place M IV BLOCK                               NUMBER PLACE, of BLOCK in the message: IV, BLOCK and PLACE are 16 bytes
 //     pad BITS OUTLEN PLACE FILL INPUT               NUMBER LENGTH OUT
 //     unpad BITS INPUT                               NUMBER LENGTH
 //     neighbour IV TEXT J                            the part
@@ -19,6 +20,7 @@
 // its line feed, `MAX_LINE`. A last line that no line feed ends counts if it is not empty.
 mod arguments;
 mod commands;
+mod counters;
 mod hex;
 mod numbers;
 mod parts;

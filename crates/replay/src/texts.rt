@@ -1,4 +1,4 @@
-// The commands that need no session: pad, unpad, neighbour, block and steal. Each gives the next `end` of the output.
+// The commands on texts, which need no session: pad, unpad, neighbour, block and steal. Each gives the next `end` of the output.
 use crate::arguments::BlockWords;
 use crate::arguments::Output;
 use crate::arguments::OutputWords;

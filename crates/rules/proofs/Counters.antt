@@ -47,11 +47,11 @@ module _ {m : ℕ} (fits : m ≤ 128) {r : List ℕ} (h : Block r) where
       )
 
   -- how many increments there were
-  count : (j : ℕ) → j < 2 ^ m → (number (counter m r j) % 2 ^ m + (2 ^ m - number r % 2 ^ m)) % 2 ^ m ≡ j
-  count j l =
+  pub counter-count : (j : ℕ) → j < 2 ^ m → (number (counter m r j) % 2 ^ m + (2 ^ m - number r % 2 ^ m)) % 2 ^ m ≡ j
+  counter-count j l =
       let first : number r % 2 ^ m < 2 ^ m = mod-lt (number r) (pow-pos m) in
       let sum : number r % 2 ^ m + j + (2 ^ m - number r % 2 ^ m) ≡ j + 2 ^ m = omega arith in
       rw (counter-number j .1, mod-add-mod (number r % 2 ^ m + j) (2 ^ m) _, sum, add-mod-right) (mod-eq-of-lt l)
 
   pub counter-distinct : (i j : ℕ) → i < 2 ^ m → j < 2 ^ m → counter m r i ≡ counter m r j → i ≡ j
-  counter-distinct i j below-i below-j same = sym (count i below-i) ∙ rw same (count j below-j)
+  counter-distinct i j below-i below-j same = sym (counter-count i below-i) ∙ rw same (counter-count j below-j)

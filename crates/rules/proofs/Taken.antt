@@ -1,5 +1,5 @@
--- What questions 3 and 7 let through: units that are not empty, at most a block long, and each of a length that its mode's rule is for.
--- Assumes nothing.
+-- What questions 3, 7 and 14 let through: units that are not empty, at most a block long, and each of a length that its mode's rule is for;
+-- counters of 1 to 128 bits. Assumes nothing.
 use Prim.Native.Nat.{ℕ, _+_, _*_, _%_, _≤_, _<_}
 use mathlib.Core.Path.{_≡_, refl, _∙_}
 use mathlib.Core.Bool.{Bool, true, and-eq-true-iff}
@@ -11,7 +11,7 @@ use lib.ListN.{length}
 use borrow.Author.Tests.{leb-true, eqb-true}
 use Rattle.rules.specs.declared.Mode.{Mode}
 use Rattle.rules.specs.declared.Mode.the-variants.{Ecb, Cbc, Cfb, Ofb, Ctr}
-use Rattle.rules.specs.Lengths.{unitLengthOk, wholeUnits}
+use Rattle.rules.specs.Lengths.{unitLengthOk, counterLengthOk, wholeUnits}
 use Rattle.rules.specs.Rules.{unitAt, unitsIn}
 use Rattle.rules.proofs.Counts.{whole-units}
 use Rattle.rules.proofs.Joined.{unit-short, unit-full}
@@ -25,6 +25,15 @@ unit-bounds Cbc n ok = omega (arith, eqb-true n 128 ok)
 unit-bounds Cfb n ok = let (some, short) = and-eq-true-iff (leb 1 n) (leb n 128) .0 ok in (leb-true 1 n some, leb-true n 128 short)
 unit-bounds Ofb n ok = omega (arith, eqb-true n 128 ok)
 unit-bounds Ctr n ok = omega (arith, eqb-true n 128 ok)
+
+-- So does a counter.
+pub counter-bounds : (mode : Mode) (m : ℕ) → counterLengthOk mode m ≡ true → (0 < m) × (m ≤ 128)
+unfolding counterLengthOk
+counter-bounds Ecb m ok = omega (arith, eqb-true m 128 ok)
+counter-bounds Cbc m ok = omega (arith, eqb-true m 128 ok)
+counter-bounds Cfb m ok = omega (arith, eqb-true m 128 ok)
+counter-bounds Ofb m ok = omega (arith, eqb-true m 128 ok)
+counter-bounds Ctr m ok = let (some, fits) = and-eq-true-iff (leb 1 m) (leb m 128) .0 ok in (leb-true 1 m some, leb-true m 128 fits)
 
 -- Elsewhere than in CFB a unit is a block.
 pub block-unit : (mode : Mode) (n : ℕ) → unitLengthOk mode n ≡ true → (mode ≡ Cfb → ⊥) → n ≡ 128
