@@ -1,9 +1,11 @@
-/* Two texts, each fed in two reads. Document 01's example, CFB with segments of 8 bits; and test vector 2 of RFC 3686, CTR with
-   a counter of 32 bits, behind 96 bits that are the message's own. Prints for each the number, what the text became, and the
-   runs of the block cipher in both feeds. From the repository's top:
+/* Three texts, each fed in two reads. Document 01's example, CFB with segments of 8 bits; test vector 2 of RFC 3686, CTR with a
+   counter of 32 bits, behind 96 bits that are the message's own; and the first again, in a session of the older release that is
+   carried over. Prints for each the number, what the text became, and the runs of the block cipher in both feeds. From the
+   repository's top:
    rt staticlib capi && cc -Iinclude examples/feed.c target/staticlib/libcapi.a -o feed && ./feed */
 #include "conguraha.h"
 #include <stdio.h>
+#include <string.h>
 
 static void feed(uint8_t number, struct conguraha_session *session, const uint8_t *text, size_t length)
 {
@@ -39,5 +41,12 @@ int main(void)
         rfc_text[i] = i;
     number = conguraha_session_open_counter(&session, CONGURAHA_CTR, false, 128, 32, rfc_key, sizeof rfc_key, first, sizeof first);
     feed(number, &session, rfc_text, sizeof rfc_text);
+
+    /* It has worked as many units as that release allowed. */
+    struct conguraha_session32 older = {.mode = CONGURAHA_CFB, .n = 8, .m = 128, .units = UINT32_MAX};
+    memcpy(older.reg, iv, sizeof older.reg);
+    number = conguraha_aes_expand(key, sizeof key, &older.rounds, older.keys);
+    conguraha_session_carry(&session, &older);
+    feed(number, &session, text, sizeof text);
     return 0;
 }

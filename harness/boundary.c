@@ -3,8 +3,23 @@
    shows, and so does a field that is wider or narrower in the library than in the header. The texts are those of FIPS 197 and
    SP 800-38A. Ends with status 0 where all is as expected. */
 #include "conguraha.h"
+#include <assert.h>
 #include <stdio.h>
 #include <string.h>
+
+/* The older session is laid out as the release before request 07 had it, so that a struct that it filled can be carried over. */
+#define OLDER_HAS(name, at) static_assert(offsetof(struct conguraha_session32, name) == (at), #name " of the older session")
+OLDER_HAS(mode, 0);
+OLDER_HAS(decrypting, 8);
+OLDER_HAS(n, 16);
+OLDER_HAS(m, 24);
+OLDER_HAS(rounds, 32);
+OLDER_HAS(keys, 40);
+OLDER_HAS(reg, 280);
+OLDER_HAS(units, 296);
+OLDER_HAS(closed, 300);
+static_assert(sizeof(struct conguraha_session32) == 304, "the older session");
+static_assert(CONGURAHA_MAX_UNITS == 18446744073709551615u, "2^64 - 1");
 
 #define KNOWN 0xa5
 #define GUARD(name) uint8_t name[16]
@@ -31,13 +46,15 @@ struct lent {
     GUARD(before_reg);
     uint8_t reg[CONGURAHA_BLOCK];
     GUARD(before_units);
-    uint32_t units;
+    uint64_t units;
     GUARD(before_closed);
     bool closed;
     GUARD(before_runs);
     size_t runs;
     GUARD(before_session);
     struct conguraha_session session;
+    GUARD(before_older);
+    struct conguraha_session32 older;
     GUARD(before_input);
     uint8_t input[CONGURAHA_MAX_BITS / 8 + 16];
     GUARD(before_out);
@@ -49,8 +66,9 @@ struct lent {
 static const struct {
     size_t at;
     const char *name;
-} PARTS[] = {PART(key), PART(iv),    PART(block),  PART(mode), PART(decrypting), PART(n),     PART(m),  PART(rounds), PART(keys),
-             PART(reg), PART(units), PART(closed), PART(runs), PART(session),    PART(input), PART(out)};
+} PARTS[] = {PART(key),  PART(iv),      PART(block), PART(mode),  PART(decrypting), PART(n),
+             PART(m),    PART(rounds),  PART(keys),  PART(reg),   PART(units),      PART(closed),
+             PART(runs), PART(session), PART(older), PART(input), PART(out)};
 
 static struct lent lent, expected;
 static int checks, failures;
@@ -63,6 +81,8 @@ static void fill(void)
     lent.closed = false;
     lent.session.decrypting = false;
     lent.session.closed = false;
+    lent.older.decrypting = false;
+    lent.older.closed = false;
 }
 
 /* To be called before the call, and `check` after it, with what is to change put into `expected` between the two. */
@@ -444,7 +464,19 @@ static void refused_counts(void)
     lent.units = 2147483647u;
     refused_feed(32, 129, 32, 0, CONGURAHA_COUNTER_LIMIT);
     lent.m = 32;
+    lent.units = 4294967295u;
+    refused_feed(32, 129, 32, 0, CONGURAHA_COUNTER_LIMIT);
+    lent.units = 4294967296u;
+    refused_feed(16, 1, 16, 0, CONGURAHA_COUNTER_LIMIT);
+    lent.m = 63;
+    lent.units = 9223372036854775807u;
+    refused_feed(32, 129, 32, 0, CONGURAHA_COUNTER_LIMIT);
+    lent.units = CONGURAHA_MAX_UNITS - 1;
+    refused_feed(16, 1, 16, 0, CONGURAHA_COUNTER_LIMIT);
+    refused_feed(32, 129, 32, 0, CONGURAHA_UNIT_LIMIT);
     lent.units = CONGURAHA_MAX_UNITS;
+    refused_feed(16, 1, 16, 0, CONGURAHA_UNIT_LIMIT);
+    lent.m = 64;
     refused_feed(16, 1, 16, 0, CONGURAHA_UNIT_LIMIT);
     lent.m = 1;
     refused_feed(16, 1, 16, 0, CONGURAHA_UNIT_LIMIT);
@@ -571,6 +603,151 @@ static void pieces(void)
     check("session_feed, of zero bytes", 0, answer, CONGURAHA_NOT_OPENED);
 }
 
+/* ---- older sessions */
+
+static const size_t HELD[] = {0, 1, 8, 128, 129, 256, 4294967295u, 4294967296u, SIZE_MAX - 1, SIZE_MAX};
+static const uint32_t UNITS[] = {0, 1, 255, 256, 2147483647u, 2147483648u, 4294967294u, 4294967295u};
+#define COUNT(list) (sizeof(list) / sizeof *(list))
+
+/* Lends an older session, and fields and a session whose bools are not its own. */
+static void lend_older(size_t mode, bool decrypting, size_t n, size_t m, size_t rounds, uint32_t units, bool closed)
+{
+    fill();
+    lent.older.mode = mode;
+    lent.older.decrypting = decrypting;
+    lent.older.n = n;
+    lent.older.m = m;
+    lent.older.rounds = rounds;
+    for (size_t i = 0; i < CONGURAHA_KEYS; i++)
+        lent.older.keys[i] = (uint8_t)(i + units);
+    for (size_t i = 0; i < CONGURAHA_BLOCK; i++)
+        lent.older.reg[i] = (uint8_t)(240 + i + n);
+    lent.older.units = units;
+    lent.older.closed = closed;
+    lent.decrypting = lent.session.decrypting = !decrypting;
+    lent.closed = lent.session.closed = !closed;
+}
+
+static void carry_fields(void)
+{
+    const struct conguraha_session32 *older = &lent.older;
+    conguraha_carry(older->mode, older->decrypting, older->n, older->m, older->rounds, older->keys, older->reg, older->units,
+                    older->closed, &lent.mode, &lent.decrypting, &lent.n, &lent.m, &lent.rounds, lent.keys, lent.reg, &lent.units,
+                    &lent.closed);
+}
+
+static void expect_carried_fields(void)
+{
+    expected.mode = expected.older.mode;
+    expected.decrypting = expected.older.decrypting;
+    expected.n = expected.older.n;
+    expected.m = expected.older.m;
+    expected.rounds = expected.older.rounds;
+    memcpy(expected.keys, expected.older.keys, sizeof expected.keys);
+    memcpy(expected.reg, expected.older.reg, sizeof expected.reg);
+    expected.units = expected.older.units;
+    expected.closed = expected.older.closed;
+}
+
+static void expect_carried_session(void)
+{
+    memset(&expected.session, 0, sizeof expected.session);
+    expected.session.mode = expected.older.mode;
+    expected.session.decrypting = expected.older.decrypting;
+    expected.session.n = expected.older.n;
+    expected.session.m = expected.older.m;
+    expected.session.rounds = expected.older.rounds;
+    memcpy(expected.session.keys, expected.older.keys, sizeof expected.session.keys);
+    memcpy(expected.session.reg, expected.older.reg, sizeof expected.session.reg);
+    expected.session.units = expected.older.units;
+    expected.session.closed = expected.older.closed;
+}
+
+/* What is lent as the older session is carried over both ways. Each written field is the older one's, and nothing else changes. */
+static void carry_both(size_t at)
+{
+    as_lent();
+    carry_fields();
+    expect_carried_fields();
+    check("carry", at, CONGURAHA_OK, CONGURAHA_OK);
+    conguraha_session_carry(&lent.session, &lent.older);
+    expect_carried_session();
+    check("session_carry", at, CONGURAHA_OK, CONGURAHA_OK);
+}
+
+/* Any fields, those that no opening gives too: no two of the sizes are the same. */
+static void carried_fields(void)
+{
+    for (size_t i = 0; i < 4 * COUNT(HELD) * COUNT(UNITS); i++) {
+        size_t at = i / 4;
+        lend_older(HELD[at % COUNT(HELD)], i & 1, HELD[(at + 3) % COUNT(HELD)], HELD[(at + 5) % COUNT(HELD)],
+                   HELD[(at + 7) % COUNT(HELD)], UNITS[at / COUNT(HELD)], i & 2);
+        carry_both(i);
+    }
+    for (size_t i = 0; i < COUNT(NO_MODE); i++) {
+        lend_older(NO_MODE[i], true, 128, 128, 10, 7, false);
+        carry_both(NO_MODE[i]);
+        refused_feed(16, 128, 16, 0, CONGURAHA_NO_MODE);
+    }
+    lend_older(7, false, 8, 128, 10, 4294967295u, false);
+    carry_both(7);
+    refused_feed(1, 8, 1, 0, CONGURAHA_NO_MODE);
+    lend_older(CONGURAHA_CFB, false, 8, 128, 10, 7, true);
+    carry_both(CONGURAHA_CFB);
+    refused_feed(1, 8, 1, 0, CONGURAHA_CLOSED);
+}
+
+/* A session that an opening gave, as the older release had it after so many units, carried over both ways. */
+static void carry_opened(size_t mode, size_t n, size_t m, uint32_t units)
+{
+    opened_counter(mode, false, n, m);
+    lent.older.mode = lent.mode;
+    lent.older.decrypting = lent.decrypting;
+    lent.older.n = lent.n;
+    lent.older.m = lent.m;
+    lent.older.rounds = lent.rounds;
+    memcpy(lent.older.keys, lent.keys, sizeof lent.older.keys);
+    memcpy(lent.older.reg, lent.reg, sizeof lent.older.reg);
+    lent.older.units = units;
+    lent.older.closed = lent.closed;
+    hex(lent.input, TEXT);
+    carry_both(units);
+}
+
+/* Past the units that ended a session of the older release: a byte in CFB with segments of 8 bits (SP 800-38A, F.3.7), by the
+   fields and by the session; and in CTR the last block that a counter of 32 bits has a value for. */
+static void past_the_older_limit(void)
+{
+    carry_opened(CONGURAHA_CFB, 8, 128, 4294967295u);
+    uint8_t answer = feed_fields(1, 8, 1, 0);
+    expected.out[0] = 0x3b;
+    hex(expected.reg, "0102030405060708090a0b0c0d0e0f3b");
+    expected.units = 4294967296u;
+    expected.runs = 1;
+    check("feed, past the older limit", 8, answer, CONGURAHA_OK);
+    answer = conguraha_session_feed(&lent.session, lent.input, 1, 8, lent.out, 2, 1, &lent.runs);
+    expected.out[1] = 0x3b;
+    hex(expected.session.reg, "0102030405060708090a0b0c0d0e0f3b");
+    expected.session.units = 4294967296u;
+    check("session_feed, past the older limit", 8, answer, CONGURAHA_OK);
+    answer = conguraha_session_feed(&lent.session, lent.input + 1, 1, 8, lent.out, 3, 2, &lent.runs);
+    expected.out[2] = 0x79;
+    hex(expected.session.reg, "02030405060708090a0b0c0d0e0f3b79");
+    expected.session.units = 4294967297u;
+    check("session_feed, on", 8, answer, CONGURAHA_OK);
+
+    carry_opened(CONGURAHA_CTR, 128, 32, 4294967295u);
+    refused_feed(32, 256, 32, 0, CONGURAHA_COUNTER_LIMIT);
+    answer = feed_fields(16, 128, 16, 0);
+    hex(expected.out, TEXTS[CONGURAHA_CTR].cipher);
+    memset(expected.out + 16, KNOWN, 16);
+    hex(expected.reg, "f0f1f2f3f4f5f6f7f8f9fafbfcfdff00");
+    expected.units = 4294967296u;
+    expected.runs = 1;
+    check("feed, the last count of 32 bits", 128, answer, CONGURAHA_OK);
+    refused_feed(16, 1, 16, 0, CONGURAHA_COUNTER_LIMIT);
+}
+
 int main(void)
 {
     expansions();
@@ -583,6 +760,8 @@ int main(void)
     refused_counts();
     edges();
     pieces();
+    carried_fields();
+    past_the_older_limit();
     if (failures == 0)
         printf("%d calls answered and wrote what they should\n", checks);
     return failures != 0;

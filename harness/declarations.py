@@ -5,7 +5,7 @@ import re
 import subprocess
 import sys
 
-C = {"u8": "uint8_t", "u32": "uint32_t", "u64": "uint64_t", "usize": "size_t", "bool": "bool"}
+C = {"u8": "uint8_t", "u32": "uint32_t", "u64": "uint64_t", "usize": "size_t", "bool": "bool", "": "void"}
 
 
 def split(parameters):
@@ -25,7 +25,8 @@ def passed(type_):
 
 
 def exported(text):
-    for name, parameters, result in re.findall(r'pub extern "C" fn (\w+)\((.*?)\) -> (\w+)', text, re.S):
+    """A function that answers nothing has the result ''."""
+    for name, parameters, result in re.findall(r'pub extern "C" fn (\w+)\((.*?)\)(?: -> (\w+))?', text, re.S):
         ways = [way for p in split(parameters) for way in passed(p.split(": ", 1)[1])]
         yield name, ([c for c, _ in ways] + [C[result]], [rust for _, rust in ways] + [result])
 
@@ -41,7 +42,7 @@ def in_c(text):
 
 
 def in_rust(text):
-    for name, parameters, result in re.findall(r"    fn (conguraha_\w+)\(([^)]*)\) -> (\w+);", text):
+    for name, parameters, result in re.findall(r"    fn (conguraha_\w+)\(([^)]*)\)(?: -> (\w+))?;", text):
         yield name, [p.split(": ", 1)[1] for p in split(parameters)] + [result]
 
 

@@ -2,9 +2,10 @@
 # edges. It shares nothing with the crates: AES is polynomial arithmetic on integers, a text is a string of bits, a session is a
 # dictionary.
 
-# the largest feed in bits, and the most units of a session (questions 6 and 9)
+# the largest feed in bits, and the most units of a session (questions 6 and 9); in the release before request 07 the units were fewer
 MAX_BITS = 524288
-MAX_UNITS = 4294967295
+MAX_UNITS = 2 ** 64 - 1
+OLDER_MAX_UNITS = 4294967295
 
 # how often the block cipher was run
 RUNS = 0
@@ -187,7 +188,8 @@ def part_unit(mode, n, count):
     return mode in ('ECB', 'CBC', 'CFB') and count % n
 
 
-def feed_number(s, length, count, size, place):
+# `most` is the most units of a session: with OLDER_MAX_UNITS it is the older release that answers
+def feed_number(s, length, count, size, place, most=MAX_UNITS):
     n, m = s['n'], s['m']
     if len(s['key']) not in (16, 24, 32) or not length_ok(s['mode'], n) or not counter_ok(s['mode'], m):
         return 4
@@ -200,15 +202,15 @@ def feed_number(s, length, count, size, place):
     if not room(count, size, place):
         return 8
     units = s['units'] + units_of(n, count)
-    if units > MAX_UNITS:
+    if units > most:
         return 9
     return 15 if units > 2 ** m else 0
 
 
 # the number, the session, the output and the runs of the block cipher
-def feed(s, data, count, out, place):
+def feed(s, data, count, out, place, most=MAX_UNITS):
     n, before = s['n'], RUNS
-    number = feed_number(s, len(data), count, len(out), place)
+    number = feed_number(s, len(data), count, len(out), place, most)
     if number:
         return number, s, out, 0
     new = units_of(n, count)

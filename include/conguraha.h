@@ -1,7 +1,8 @@
 /* AES in the modes ECB, CBC, CFB, OFB and CTR, from C and C++: the proved code of target/staticlib/libcapi.a, which
    `rt staticlib capi` writes for x86-64. README.md has an example, docs/PROMISES.md says what is proved of each call.
 
-   Every call ends, and answers a number of enum conguraha_answer; CONGURAHA_OK is success. A refused call writes this:
+   Every call ends, and answers a number of enum conguraha_answer; CONGURAHA_OK is success. (Carrying an older session over
+   refuses nothing, and answers nothing.) A refused call writes this:
 
        conguraha_session_feed, conguraha_feed          0 runs, and nothing else: session and output stay as they were
        conguraha_session_open, conguraha_open,
@@ -19,7 +20,10 @@
    - What a call may write (behind each pointer that is not const) overlaps nothing else that the call is given. So no text is
      worked in place: input and output are two buffers.
    - A bool holds 0 or 1. So a session is fed only after conguraha_session_open or conguraha_session_open_counter has been called
-     for it, accepted or refused. (One with all bytes 0 may be fed too, and is answered CONGURAHA_NOT_OPENED.)
+     for it, accepted or refused, or an older session was carried over into it. (One with all bytes 0 may be fed too, and is
+     answered CONGURAHA_NOT_OPENED.)
+   - A program that was built with the older release's header is built again with this one: the calls have the same names, and
+     `units` is 8 bytes now.
    - Calls share nothing, and threads may call at the same time. One session is for one thread at a time.
    - A session holds its round keys. The library keeps no copy of them, and wipes none. */
 #ifndef CONGURAHA_H
@@ -36,7 +40,7 @@ extern "C" {
 #define CONGURAHA_BLOCK 16              /* bytes of a block, and of an IV */
 #define CONGURAHA_KEYS 240              /* bytes of the round keys */
 #define CONGURAHA_MAX_BITS 524288       /* bits of the largest feed: 65,536 bytes */
-#define CONGURAHA_MAX_UNITS 4294967295u /* units that one session works; then open another one, under a fresh IV */
+#define CONGURAHA_MAX_UNITS UINT64_MAX  /* units that one session works, 2^64 - 1 */
 
 enum conguraha_mode { CONGURAHA_ECB, CONGURAHA_CBC, CONGURAHA_CFB, CONGURAHA_OFB, CONGURAHA_CTR };
 
@@ -71,7 +75,20 @@ struct conguraha_session {
     size_t rounds;
     uint8_t keys[CONGURAHA_KEYS];
     uint8_t reg[CONGURAHA_BLOCK]; /* the register: the IV at first */
-    uint32_t units;               /* worked so far */
+    uint64_t units;               /* worked so far */
+    bool closed;
+};
+
+/* A session of the older release, whose units were a 32-bit number. */
+struct conguraha_session32 {
+    size_t mode;
+    bool decrypting;
+    size_t n;
+    size_t m;
+    size_t rounds;
+    uint8_t keys[CONGURAHA_KEYS];
+    uint8_t reg[CONGURAHA_BLOCK];
+    uint32_t units;
     bool closed;
 };
 
@@ -95,6 +112,11 @@ static inline uint8_t conguraha_session_open_counter(struct conguraha_session *s
 static inline uint8_t conguraha_session_feed(struct conguraha_session *s, const uint8_t *input, size_t input_length, size_t bits,
                                              uint8_t *out, size_t out_length, size_t place, size_t *runs);
 
+/* Carries a session of the older release over: `s` becomes it with every field as it was. Feeds then answer and write
+   what they did there; and where that release answered CONGURAHA_UNIT_LIMIT, having 4,294,967,295 for its limit, they go on, or
+   answer CONGURAHA_COUNTER_LIMIT. It refuses nothing. From then on feed `s` alone: both are the same session. */
+static inline void conguraha_session_carry(struct conguraha_session *s, const struct conguraha_session32 *older);
+
 /* One block under a key, and the key's round keys. These answer CONGURAHA_OK or CONGURAHA_KEY_LENGTH. */
 uint8_t conguraha_aes_encrypt(const uint8_t *key, size_t key_length, const uint8_t block[CONGURAHA_BLOCK],
                               uint8_t out[CONGURAHA_BLOCK]);
@@ -105,18 +127,23 @@ uint8_t conguraha_aes_expand(const uint8_t *key, size_t key_length, size_t *roun
 /* For benchmarks: puts the block through the cipher `count` times, in place, under a key that is expanded once. */
 uint8_t conguraha_aes_chain(const uint8_t *key, size_t key_length, bool decrypting, uint8_t block[CONGURAHA_BLOCK], size_t count);
 
-/* Sessions as the library has them, with the fields apart: an opening writes them all, a feed moves reg, units and closed. */
+/* Sessions as the library has them, with the fields apart: an opening writes them all, a feed moves reg, units and closed, and
+   carrying over writes each `held_` field as the older one was. */
 uint8_t conguraha_open(size_t mode, bool decrypting, size_t n, const uint8_t *key, size_t key_length, const uint8_t *iv,
                        size_t iv_length, size_t *held_mode, bool *held_decrypting, size_t *held_n, size_t *held_m,
-                       size_t *rounds, uint8_t keys[CONGURAHA_KEYS], uint8_t reg[CONGURAHA_BLOCK], uint32_t *units,
+                       size_t *rounds, uint8_t keys[CONGURAHA_KEYS], uint8_t reg[CONGURAHA_BLOCK], uint64_t *units,
                        bool *closed);
 uint8_t conguraha_open_counter(size_t mode, bool decrypting, size_t n, size_t m, const uint8_t *key, size_t key_length,
                                const uint8_t *iv, size_t iv_length, size_t *held_mode, bool *held_decrypting, size_t *held_n,
                                size_t *held_m, size_t *rounds, uint8_t keys[CONGURAHA_KEYS], uint8_t reg[CONGURAHA_BLOCK],
-                               uint32_t *units, bool *closed);
+                               uint64_t *units, bool *closed);
 uint8_t conguraha_feed(size_t mode, bool decrypting, size_t n, size_t m, size_t rounds, const uint8_t keys[CONGURAHA_KEYS],
-                       uint8_t reg[CONGURAHA_BLOCK], uint32_t *units, bool *closed, const uint8_t *input, size_t input_length,
+                       uint8_t reg[CONGURAHA_BLOCK], uint64_t *units, bool *closed, const uint8_t *input, size_t input_length,
                        size_t bits, uint8_t *out, size_t out_length, size_t place, size_t *runs);
+void conguraha_carry(size_t mode, bool decrypting, size_t n, size_t m, size_t rounds, const uint8_t keys[CONGURAHA_KEYS],
+                     const uint8_t reg[CONGURAHA_BLOCK], uint32_t units, bool closed, size_t *held_mode, bool *held_decrypting,
+                     size_t *held_n, size_t *held_m, size_t *held_rounds, uint8_t held_keys[CONGURAHA_KEYS],
+                     uint8_t held_reg[CONGURAHA_BLOCK], uint64_t *held_units, bool *held_closed);
 
 static inline uint8_t conguraha_session_open(struct conguraha_session *s, size_t mode, bool decrypting, size_t n,
                                              const uint8_t *key, size_t key_length, const uint8_t *iv, size_t iv_length)
@@ -140,6 +167,13 @@ static inline uint8_t conguraha_session_feed(struct conguraha_session *s, const 
 {
     return conguraha_feed(s->mode, s->decrypting, s->n, s->m, s->rounds, s->keys, s->reg, &s->units, &s->closed, input,
                           input_length, bits, out, out_length, place, runs);
+}
+
+static inline void conguraha_session_carry(struct conguraha_session *s, const struct conguraha_session32 *older)
+{
+    memset(s, 0, sizeof *s); /* a bool is lent with a value */
+    conguraha_carry(older->mode, older->decrypting, older->n, older->m, older->rounds, older->keys, older->reg, older->units,
+                    older->closed, &s->mode, &s->decrypting, &s->n, &s->m, &s->rounds, s->keys, s->reg, &s->units, &s->closed);
 }
 
 #ifdef __cplusplus

@@ -7,7 +7,8 @@ import re
 import sys
 
 sys.path.insert(0, os.path.join(os.path.dirname(os.path.abspath(__file__)), '..', '..', 'harness'))
-from document01 import MAX_BITS, REFUSED, counted, feed, forecast, neighbour, opening, pad, place, single_block, steal, unpad
+from document01 import (MAX_BITS, MAX_UNITS, OLDER_MAX_UNITS, REFUSED, counted, feed, forecast, neighbour, opening, pad, place,
+                        single_block, steal, unpad)
 
 
 # the lines
@@ -81,6 +82,16 @@ class Replay:
         s = self.session
         return f"{number} {show(out)} {s['r'].hex()} {s['units']} {s['closed']} {runs}"
 
+    def units(self, count):
+        self.session = dict(self.session, units=read_number(count))
+        return str(self.session['units'])
+
+    # no part changes
+    def carry(self):
+        if self.session['units'] > OLDER_MAX_UNITS:
+            raise Bad
+        return str(self.session['units'])
+
     def forecast(self, mode, n, count):
         number, size, runs = forecast(read_one_of(mode, MODES), read_number(n), read_number(count))
         return f'{number} {size} {runs}'
@@ -122,8 +133,8 @@ class Replay:
         same = all(self.session[k] == self.kept[k] for k in ('mode', 'way', 'n', 'm', 'key', 'r'))
         return 'yes' if same else 'no'
 
-    COMMANDS = {'open': 5, 'open-counter': 6, 'feed': 5, 'forecast': 3, 'place': 3, 'pad': 5, 'unpad': 2, 'neighbour': 3,
-                'block': 7, 'steal': 8, 'keep': 0, 'alike': 0}
+    COMMANDS = {'open': 5, 'open-counter': 6, 'feed': 5, 'units': 1, 'carry': 0, 'forecast': 3, 'place': 3, 'pad': 5, 'unpad': 2,
+                'neighbour': 3, 'block': 7, 'steal': 8, 'keep': 0, 'alike': 0}
 
     def line(self, line):
         name, *words = line.split(' ')
@@ -145,7 +156,7 @@ TEXT = '6bc1bee22e409f96e93d7e117393172aae2d8a571e03ac9c9eb76fac45af8e51'
 
 
 def first_lines():
-    yield from ('alike', 'feed 8 1 0 ee 6b', 'keep', 'alike')
+    yield from ('alike', 'feed 8 1 0 ee 6b', 'keep', 'alike', 'carry', 'units 5', 'carry', 'feed 8 1 0 ee 6b', 'alike')
     yield from (f'open CFB 8 E {KEY} {IV}', 'alike', 'feed 16 2 0 ee 6bc1', 'keep', 'alike', 'feed 0 0 0 ee -', 'alike')
     yield from ('feed 8 1 0 ee 00', 'alike', f'open CFB 8 E {KEY} 02030405060708090a0b0c0d0e0f3b79', 'alike')
 
@@ -193,6 +204,24 @@ def counter_lines():
     yield from ('feed 0 0 0 ee -', f'open-counter CTR 128 9 D {KEY} {IV[:28]}01ff', f'feed 256 32 0 ee {TEXT}')
     yield from (f'open CTR 128 E {KEY} {IV}', 'keep', f'open-counter CTR 128 128 E {KEY} {IV}', 'alike')
     yield from (f'open-counter CTR 128 127 E {KEY} {IV}', 'alike', 'keep', f'open-counter CTR 128 0127 E {KEY} {IV}', 'alike')
+
+
+# feeds of no unit, one and two where the older release ended and where today's does, with 9 and 15; a list that goes past 2^32 - 1 and is
+# carried over before each feed; closed sessions; other forms
+def unit_lines():
+    for mode, n, m in (('CFB', 1, 128), ('OFB', 128, 128), ('CTR', 128, 5), ('CTR', 128, 32), ('CTR', 128, 33), ('CTR', 128, 64)):
+        yield from (f'open-counter {mode} {n} {m} E {KEY} {IV[:16]}{"ff" * 8}', 'keep')
+        for units in (OLDER_MAX_UNITS - 1, OLDER_MAX_UNITS, OLDER_MAX_UNITS + 1, MAX_UNITS - 1, MAX_UNITS):
+            for count in (0, 1, 2):
+                yield from (f'units {units}', 'carry', f'feed {count * n} 32 0 ee {TEXT}')
+        yield 'alike'
+    yield from (f'open CFB 8 D {KEY24} {IV}', f'units {OLDER_MAX_UNITS - 5}')
+    for count in (2, 0, 3, 0, 1, 2):
+        yield from ('keep', 'carry', 'alike', f'feed {8 * count} 3 0 ee {TEXT}')
+    yield from (f'open-counter CTR 128 33 D {KEY32} {IV}', f'units {2 ** 33 - 2}', 'carry', f'feed 129 17 0 ee {TEXT}', 'feed 0 0 0 ee -')
+    yield from ('units 3', 'carry', 'feed 0 0 0 ee -', f'open OFB 128 D {KEY} {IV}', 'units 00018446744073709551615', 'feed 1 1 0 ee 6b')
+    yield from ('units', 'units -1', f'units {2 ** 64}', 'units 1 2', 'units 1 ', 'carry', 'carry 1', 'carry ', 'feed 0 0 0 ee -')
+    yield from ('units 0004294967295', 'carry 1', 'carry', 'feed 129 17 0 ee ' + TEXT, 'carry', 'units 0', 'carry', 'feed 0 0 0 ee -')
 
 
 # every mode at the edges of n and of the bits; n = 3 and 9 bits; the largest numbers
@@ -258,13 +287,13 @@ def steal_lines():
 
 # a good line, and it with a word left out, added, doubled by a space or changed
 def bad_lines():
-    good = (f'open-counter CTR 128 8 E {KEY} {IV}', f'open CFB 8 E {KEY} {IV}', f'feed 8 2 1 ee {IV}', 'forecast CFB 3 9',
-            f'place 8 {IV} {IV}', f'pad 8 16 0 ee {IV}', f'unpad 128 {IV}', f'neighbour {IV} {IV} 0',
+    good = (f'open-counter CTR 128 8 E {KEY} {IV}', f'open CFB 8 E {KEY} {IV}', f'feed 8 2 1 ee {IV}', 'units 5', 'carry',
+            'forecast CFB 3 9', f'place 8 {IV} {IV}', f'pad 8 16 0 ee {IV}', f'unpad 128 {IV}', f'neighbour {IV} {IV} 0',
             f'block {KEY} {IV} {IV} 0 16 0 ee', f'steal E {KEY} {IV} 136 18 1 ee {TEXT}', 'keep', 'alike')
     numbers = ('', '-', '-1', '+1', '0x8', '1a', '18446744073709551616', '99999999999999999999', '1.0', '8\r', '8\t')
     data = ('', '0', '000', '0A', 'AB', '0g', '--', '-00', '0-', '0x', '/0', ':0', '`0', 'g0', '\x80\x80', '\0\0')
-    kinds = {'open': 'mnwbb', 'open-counter': 'mnnwbb', 'feed': 'nnnfb', 'forecast': 'mnn', 'place': 'nss', 'pad': 'nnnfb',
-             'unpad': 'nb', 'neighbour': 'bbn', 'block': 'bbbnnnf', 'steal': 'wbbnnnfb'}
+    kinds = {'open': 'mnwbb', 'open-counter': 'mnnwbb', 'feed': 'nnnfb', 'units': 'n', 'forecast': 'mnn', 'place': 'nss',
+             'pad': 'nnnfb', 'unpad': 'nb', 'neighbour': 'bbn', 'block': 'bbbnnnf', 'steal': 'wbbnnnfb'}
     wrong = {'m': ('', 'ecb', 'CBCX', 'CB', 'Ecb', '-'), 'n': numbers, 'w': ('', 'e', 'd', 'ED', 'F', '-'),
              'b': data, 'f': data + ('-', '000000', 'e'),
              's': data + ('-', IV[2:], IV[1:], IV + '0', IV + '00', IV * 2, IV[:30] + '0F', IV[:31] + 'g', '-' + IV[1:])}
@@ -324,8 +353,8 @@ def random_lines():
 
 def main():
     if sys.argv[1:] == ['lines']:
-        for lines in (first_lines, mode_lines, question_lines, counter_lines, forecast_lines, place_lines, text_lines, steal_lines,
-                      bad_lines, random_lines, long_lines):
+        for lines in (first_lines, mode_lines, question_lines, counter_lines, unit_lines, forecast_lines, place_lines, text_lines,
+                      steal_lines, bad_lines, random_lines, long_lines):
             for line in lines():
                 sys.stdout.buffer.write(line.encode('latin-1') + b'\n')
         # the last line has no line feed

@@ -2,7 +2,7 @@
 // against counter blocks that are computed as numbers and encrypted by OpenSSL, and against the reference for all arguments.
 use crate::openssl::{Direction, Key};
 use crate::rattle::Session;
-use crate::reference::{self, counting, parts, Mode, MAX_BITS, MAX_UNITS, MODES};
+use crate::reference::{self, counting, counts, parts, Mode, MAX_BITS, MAX_UNITS, MODES};
 use crate::report::{equal, hex, Outcome, Report};
 use crate::rng::Rng;
 use crate::sessions::{same, Feed, DIRECTIONS, KEY_LENGTHS};
@@ -52,7 +52,7 @@ pub fn run(report: &mut Report) {
         distinct,
     );
     report.test(
-        "CTR: the last units of every m, 2^m or 2^32 - 1",
+        "CTR: the last units of every m, 2^m or 2^64 - 1",
         last_units,
     );
     for mode in MODES {
@@ -298,17 +298,22 @@ fn distinct(rng: &mut Rng) -> Outcome {
 // From a session that has done all units but `left` that its counter, or the count of units, allows.
 fn last_units(rng: &mut Rng) -> Outcome {
     for m in 1..=128 {
-        let most = (MAX_UNITS as usize).min(blocks_of(m));
+        let most = counts(m).min(MAX_UNITS as u128);
         for left in 0..most.min(5) {
             for units in 0..8 {
                 let key = rng.bytes(16);
                 let iv = any_iv(rng, m);
                 let mut session = open(Direction::Encrypt, m, &key, &iv)?;
-                session.units = (most - left) as u32;
-                if units > left {
-                    refused(&mut session, 128 * units, if m < 32 { 15 } else { 9 })?;
+                session.units = (most - left) as u64;
+                if units as u128 > left {
+                    refused(&mut session, 128 * units, if m < 64 { 15 } else { 9 })?;
                 } else {
                     fed(rng, &mut session, &vec![0; 16 * units], 128 * units, 8)?;
+                    equal(
+                        || format!("m {m}, {left} units left, {units} fed"),
+                        most - left + units as u128,
+                        session.units as u128,
+                    )?;
                 }
             }
         }

@@ -1,6 +1,7 @@
 // What other programs see of the proved code, held against a second implementation. The tests go by subject, a file each;
 // its `run` hands its tests to the report.
 mod aes;
+mod carry;
 mod cost;
 mod counters;
 mod modeline;
@@ -24,6 +25,7 @@ fn main() {
     aes::run(&mut report);
     sessions::run(&mut report);
     counters::run(&mut report);
+    carry::run(&mut report);
     scenario::run(&mut report);
     stack::run(&mut report);
     replay::run(&mut report);

@@ -42,7 +42,7 @@ extern "C" {
         rounds: *mut usize,
         keys: *mut u8,
         register: *mut u8,
-        units: *mut u32,
+        units: *mut u64,
         closed: *mut bool,
     ) -> u8;
     fn conguraha_open_counter(
@@ -61,7 +61,7 @@ extern "C" {
         rounds: *mut usize,
         keys: *mut u8,
         register: *mut u8,
-        units: *mut u32,
+        units: *mut u64,
         closed: *mut bool,
     ) -> u8;
     fn conguraha_feed(
@@ -72,7 +72,7 @@ extern "C" {
         rounds: usize,
         keys: *const u8,
         register: *mut u8,
-        units: *mut u32,
+        units: *mut u64,
         closed: *mut bool,
         input: *const u8,
         input_length: usize,
@@ -82,6 +82,26 @@ extern "C" {
         place: usize,
         runs: *mut usize,
     ) -> u8;
+    fn conguraha_carry(
+        mode: usize,
+        decrypting: bool,
+        n: usize,
+        m: usize,
+        rounds: usize,
+        keys: *const u8,
+        register: *const u8,
+        units: u32,
+        closed: bool,
+        held_mode: *mut usize,
+        held_decrypting: *mut bool,
+        held_n: *mut usize,
+        held_m: *mut usize,
+        held_rounds: *mut usize,
+        held_keys: *mut u8,
+        held_register: *mut u8,
+        held_units: *mut u64,
+        held_closed: *mut bool,
+    );
 }
 
 const FILL: u8 = 0xa5;
@@ -141,7 +161,7 @@ pub struct Session {
     pub rounds: usize,
     pub keys: [u8; 240],
     pub register: [u8; 16],
-    pub units: u32,
+    pub units: u64,
     pub closed: bool,
 }
 
@@ -156,7 +176,7 @@ impl Session {
             rounds: usize::MAX,
             keys: [FILL; 240],
             register: [FILL; 16],
-            units: u32::MAX,
+            units: u64::MAX,
             closed: false,
         }
     }
@@ -245,5 +265,59 @@ impl Session {
             )
         };
         (number, runs)
+    }
+}
+
+// A session of the release before request 07, whose units were a 32-bit number.
+#[derive(Clone, Debug, PartialEq)]
+pub struct Session32 {
+    pub mode: usize,
+    pub decrypting: bool,
+    pub n: usize,
+    pub m: usize,
+    pub rounds: usize,
+    pub keys: [u8; 240],
+    pub register: [u8; 16],
+    pub units: u32,
+    pub closed: bool,
+}
+
+impl Session32 {
+    // The session carried over. What is lent holds in no bit what will be written.
+    pub fn carried(&self) -> Session {
+        let mut session = Session {
+            mode: !self.mode,
+            decrypting: !self.decrypting,
+            n: !self.n,
+            m: !self.m,
+            rounds: !self.rounds,
+            keys: self.keys.map(|byte| !byte),
+            register: self.register.map(|byte| !byte),
+            units: !(self.units as u64),
+            closed: !self.closed,
+        };
+        unsafe {
+            conguraha_carry(
+                self.mode,
+                self.decrypting,
+                self.n,
+                self.m,
+                self.rounds,
+                self.keys.as_ptr(),
+                self.register.as_ptr(),
+                self.units,
+                self.closed,
+                &mut session.mode,
+                &mut session.decrypting,
+                &mut session.n,
+                &mut session.m,
+                &mut session.rounds,
+                session.keys.as_mut_ptr(),
+                session.register.as_mut_ptr(),
+                &mut session.units,
+                &mut session.closed,
+            )
+        };
+        session
     }
 }

@@ -2,9 +2,10 @@
 // vector of bits, and a unit is worked as the rules say it, with no thought of speed.
 use crate::openssl::{Direction, Key};
 
-// The largest feed in bits, and the most units of a session (questions 6 and 9).
+// The largest feed in bits, and the most units of a session (questions 6 and 9); then the most units before request 07.
 pub const MAX_BITS: usize = 524_288;
-pub const MAX_UNITS: u32 = 4_294_967_295;
+pub const MAX_UNITS: u64 = 18_446_744_073_709_551_615;
+pub const OLDER_MAX_UNITS: u64 = 4_294_967_295;
 
 #[derive(Clone, Copy, Debug, PartialEq)]
 pub enum Mode {
@@ -53,6 +54,15 @@ impl Mode {
 // The bits that count, in a block as a number: 2^m - 1.
 pub fn counting(m: usize) -> u128 {
     u128::MAX >> (128 - m)
+}
+
+// How many values a counter of m bits has: 2^m. 2^128, which no units reach, is no u128.
+pub fn counts(m: usize) -> u128 {
+    if m < 128 {
+        1 << m
+    } else {
+        u128::MAX
+    }
 }
 
 // The block whose lowest m bits, as a number, are one higher modulo 2^m, and whose other bits are the same (SP 800-38A, appendix
@@ -108,7 +118,7 @@ pub struct Session {
     pub m: usize,
     pub key: Option<Key>,
     pub register: [u8; 16],
-    pub units: u32,
+    pub units: u64,
     pub closed: bool,
     // how often OpenSSL's block functions were run
     runs: usize,
@@ -179,7 +189,12 @@ impl Session {
         self.key.as_ref().map_or(0, |key| key.rounds)
     }
 
-    fn feed_number(&self, input: &[u8], count: usize, size: usize, place: usize) -> u8 {
+    // The units worked, and those of a feed of so many bits.
+    pub fn units_with(&self, count: usize) -> u128 {
+        self.units as u128 + parts(count, self.n) as u128
+    }
+
+    fn feed_number(&self, limit: u64, input: &[u8], count: usize, size: usize, place: usize) -> u8 {
         let opened = [10, 12, 14].contains(&self.rounds())
             && self.mode.takes(self.n)
             && self.mode.takes_counter(self.m);
@@ -198,12 +213,11 @@ impl Session {
         if place > size || parts(count, 8) > size - place {
             return 8;
         }
-        let units = self.units as u128 + parts(count, self.n) as u128;
-        if units > MAX_UNITS as u128 {
+        let units = self.units_with(count);
+        if units > limit as u128 {
             return 9;
         }
-        // 2^128, which no units reach, is no u128
-        if self.m < 128 && units > 1 << self.m {
+        if units > counts(self.m) {
             return 15;
         }
         0
@@ -217,7 +231,19 @@ impl Session {
         out: &mut [u8],
         place: usize,
     ) -> (u8, usize) {
-        let number = self.feed_number(input, count, out.len(), place);
+        self.feed_within(MAX_UNITS, input, count, out, place)
+    }
+
+    // The same where a session works at most so many units.
+    pub fn feed_within(
+        &mut self,
+        limit: u64,
+        input: &[u8],
+        count: usize,
+        out: &mut [u8],
+        place: usize,
+    ) -> (u8, usize) {
+        let number = self.feed_number(limit, input, count, out.len(), place);
         let before = self.runs;
         if number == 0 {
             let text = bits(&input[..parts(count, 8)]);

@@ -2,7 +2,9 @@
 // reference; what demand 3 says of a loss and of damage is then asked of the program's own texts.
 use crate::openssl::Direction;
 use crate::process;
-use crate::reference::{self, bits, bytes, parts, Mode, Session, MAX_BITS, MODES};
+use crate::reference::{
+    self, bits, bytes, counts, parts, Mode, Session, MAX_BITS, MAX_UNITS, MODES, OLDER_MAX_UNITS,
+};
 use crate::report::{equal, hex, Outcome, Report};
 use crate::rng::Rng;
 use crate::sessions::Feed;
@@ -58,11 +60,23 @@ pub fn run(report: &mut Report) {
     report.test("replay: no input, and no last line feed", ends);
 }
 
-// The lines to run, each with the line that is expected of it, and the session as the reference has it.
+// The lines to run, each with the line that is expected of it, the session as the reference has it, and what happened to it.
 pub struct Script {
     lines: Vec<(String, String)>,
     session: Session,
     kept: Session,
+    tally: Tally,
+}
+
+// How often feeds were answered 9 and 15, how often one led past the units of 32 bits, and how often a session was carried over
+// and was not, since its units are past them.
+#[derive(Debug, Default)]
+struct Tally {
+    nine: usize,
+    fifteen: usize,
+    crossed: usize,
+    carried: usize,
+    not_carried: usize,
 }
 
 pub fn word(bytes: &[u8]) -> String {
@@ -86,6 +100,7 @@ impl Script {
             lines: vec![],
             session: Session::refused(),
             kept: Session::refused(),
+            tally: Tally::default(),
         }
     }
 
@@ -133,9 +148,14 @@ impl Script {
 
     pub fn feed(&mut self, feed: &Feed) {
         let mut out = feed.out.clone();
+        let before = self.session.units;
         let (number, runs) = self
             .session
             .feed(&feed.input, feed.bits, &mut out, feed.place);
+        let after = self.session.units;
+        self.tally.nine += (number == 9) as usize;
+        self.tally.fifteen += (number == 15) as usize;
+        self.tally.crossed += (before <= OLDER_MAX_UNITS && after > OLDER_MAX_UNITS) as usize;
         let line = format!(
             "feed {} {} {} {:02x} {}",
             feed.bits,
@@ -152,6 +172,39 @@ impl Script {
             self.session.closed as u8
         );
         self.line(line, expected);
+    }
+
+    // The session as if it had worked so many units.
+    fn units(&mut self, count: u64) {
+        self.session.units = count;
+        self.line(format!("units {count}"), count.to_string());
+    }
+
+    // The session as the older release would have it, carried over.
+    fn carry(&mut self) {
+        let units = self.session.units;
+        let expected = if units <= OLDER_MAX_UNITS {
+            self.tally.carried += 1;
+            units.to_string()
+        } else {
+            self.tally.not_carried += 1;
+            "?".to_string()
+        };
+        self.line("carry".to_string(), expected);
+    }
+
+    // Some feeds, refused ones among them. Before some the count of units is set, often close to where feeds end, and before some
+    // the session is carried over.
+    fn some_feeds(&mut self, rng: &mut Rng, n: usize) {
+        for _ in 0..3 + rng.below(9) {
+            match rng.below(8) {
+                0 | 1 => self.units(any_units(rng, self.session.m)),
+                2 => self.carry(),
+                _ => {}
+            }
+            let feed = Feed::any(rng, n);
+            self.feed(&feed);
+        }
     }
 
     fn forecast(&mut self, mode: Mode, n: usize, bits: usize) {
@@ -215,6 +268,18 @@ pub fn any_m(rng: &mut Rng, mode: Mode) -> usize {
     }
 }
 
+// Units done: a few, any, or close to the end of the older release, of today's, or of the counter.
+fn any_units(rng: &mut Rng, m: usize) -> u64 {
+    let end = match rng.below(5) {
+        0 => return rng.below(12) as u64,
+        1 => return rng.number() >> rng.below(64),
+        2 => OLDER_MAX_UNITS,
+        3 => MAX_UNITS,
+        _ => counts(m).min(MAX_UNITS as u128) as u64,
+    };
+    end.saturating_sub(rng.below(13) as u64)
+}
+
 fn iv_of(rng: &mut Rng, mode: Mode) -> Vec<u8> {
     rng.bytes(if mode == Mode::Ecb { 0 } else { 16 })
 }
@@ -233,12 +298,20 @@ fn feeds(rng: &mut Rng) -> Outcome {
         }
         let direction = any_direction(rng);
         script.open(mode, direction, n, &key, &iv);
-        for _ in 0..3 + rng.below(9) {
-            let feed = Feed::any(rng, n);
-            script.feed(&feed);
-        }
+        script.some_feeds(rng, n);
     }
-    script.run().map(|_| ())
+    script.run()?;
+    happened(&script.tally, false)
+}
+
+// What the lists are for came in them; 15 under counters alone.
+fn happened(tally: &Tally, counters: bool) -> Outcome {
+    let least = [tally.nine, tally.crossed, tally.carried, tally.not_carried];
+    equal(
+        || format!("{tally:?}"),
+        (true, counters),
+        (least.iter().all(|&count| count > 0), tally.fifteen > 0),
+    )
 }
 
 fn counters(rng: &mut Rng) -> Outcome {
@@ -266,12 +339,10 @@ fn counters(rng: &mut Rng) -> Outcome {
         }
         let direction = any_direction(rng);
         script.open_counter(mode, direction, n, m, &key, &iv);
-        for _ in 0..3 + rng.below(9) {
-            let feed = Feed::any(rng, n);
-            script.feed(&feed);
-        }
+        script.some_feeds(rng, n);
     }
-    script.run().map(|_| ())
+    script.run()?;
+    happened(&script.tally, true)
 }
 
 // A stream of units, fed to a decrypting session in random reads with some refused feeds between. The answer is the places of
@@ -695,6 +766,31 @@ const BAD_LINES: &[&str] = &[
     "steal E - - 136 17 18446744073709551616 00 00",
     "steal E - - 136 17 0 0 00",
     "steal E - - 136 17 0 00 0",
+    "units",
+    "units ",
+    "units  1",
+    "units 1 ",
+    "units 1 1",
+    "units -",
+    "units -1",
+    "units x",
+    "units 1x",
+    "units 0x1",
+    "units 18446744073709551616",
+    "units 100000000000000000000",
+    "units\t1",
+    "units 1\r",
+    "Units 1",
+    "unit 1",
+    "unitss 1",
+    "carry ",
+    "carry 1",
+    "carry it",
+    "carry\r",
+    " carry",
+    "Carry",
+    "carr",
+    "carried",
     "keep it",
     "alike ",
     "kept",

@@ -1,5 +1,5 @@
--- A session held apart: a number that is no mode, what open and feed give under one that is, and the fields that make a session
--- again. Assumes nothing.
+-- A session held apart: a number that is no mode, what open and feed give under one that is, the fields that make a session again, and
+-- those of an older one. Assumes nothing.
 use Prim.Native.Nat.{ℕ, _≤_, _<_}
 use mathlib.Core.Path.{_≡_, refl, sym, _∙_}
 use mathlib.Core.Bool.{Bool}
@@ -14,7 +14,8 @@ use Rattle.modes.specs.declared.session.Session.{Session}
 use Rattle.modes.specs.declared.session.Opened.{Opened}
 use Rattle.modes.specs.declared.session.Fed.{Fed}
 use Rattle.modes.specs.Sessions.{OpenedBy, FedBy, openNumber, feedNumber, refusedSession}
-use Rattle.capi.specs.Held.{modeOf, modeNumber, directionOf, directionDecrypts, coded, openedNumber, openedAs, OpenedByNumber, OpenedAt, held, HeldAgain, fedNumber, fedAs, FedAt}
+use Rattle.carry.specs.Older.{carried}
+use Rattle.capi.specs.Held.{modeOf, modeNumber, directionOf, directionDecrypts, coded, openedNumber, openedAs, OpenedByNumber, OpenedAt, held, HeldAgain, fedNumber, fedAs, FedAt, held32, HeldCarried}
 
 mode-number : (code k : ℕ) → code ≤ 4 → coded code k ≡ k
 unfolding coded
@@ -100,3 +101,10 @@ module _ (code : ℕ) (s : Session) (input : List ℕ) (count : ℕ) (out : List
         output = rw (e, ← same) (f .output);
         runs-written = rw (e, ← same) (f .runs);
       }
+
+-- ---- an older session carried over
+
+pub held-carried : HeldCarried
+unfolding HeldCarried held held32 carried
+held-carried code decrypting n m rounds keys register units closed code′ decrypting′ n′ m′ rounds′ keys′ register′ units′ closed′ w =
+    rw (w .mode-written, w .direction-written, w .n-written, w .m-written, w .rounds-written, w .keys-written, w .register-written, w .units-written, w .closed-written)

@@ -1,4 +1,4 @@
--- Sessions whose fields the caller holds apart: what a mode's number stands for, and what the two calls answer and write.
+-- Sessions whose fields the caller holds apart: what a mode's number stands for, and what the calls answer and write.
 use Prim.Native.Nat.{ℕ}
 use mathlib.Core.Path.{_≡_}
 use mathlib.Core.Bool.{Bool, true, false, cond}
@@ -11,6 +11,8 @@ use Rattle.rules.specs.declared.Direction.{Direction}
 use Rattle.rules.specs.declared.Direction.the-variants.{Encrypt, Decrypt}
 use Rattle.modes.specs.declared.session.Session.{Session}
 use Rattle.modes.specs.declared.session.Opened.{Opened}
+use Rattle.carry.specs.declared.Session32.{Session32}
+use Rattle.carry.specs.Older.{carried}
 use Rattle.modes.specs.Sessions.{openNumber, openedSession, refusedSession, feedNumber, fedText, sessionText, fedSession, sessionRuns, written}
 
 -- ---- the numbers
@@ -100,3 +102,41 @@ module _ (code : ℕ) (s : Session) (input : List ℕ) (count : ℕ) (out : List
     pub closed-written : closed ≡ fedAs .closed
     pub output : after ≡ cond (eqb fedNumber 0) (written out place (sessionText s (fedText input count))) out
     pub runs-written : runs ≡ cond (eqb fedNumber 0) (sessionRuns s (fedText input count)) 0
+
+-- ---- an older session carried over
+
+-- The older session that fields held apart make.
+unfoldable pub held32 : ℕ → Bool → ℕ → ℕ → ℕ → List ℕ → List ℕ → ℕ → Bool → Session32
+held32 code decrypting n m rounds keys register units closed =
+    record {
+      mode = modeOf code;
+      direction = directionOf decrypting;
+      n = n;
+      m = m;
+      rounds = rounds;
+      keys = keys;
+      register = register;
+      units = units;
+      closed = closed;
+    }
+
+module _ (code : ℕ) (decrypting : Bool) (n m rounds : ℕ) (keys register : List ℕ) (units : ℕ) (closed : Bool) where
+  -- Each field is written as it was, the mode's number too.
+  pub record CarriedAt (code′ : ℕ) (decrypting′ : Bool) (n′ m′ rounds′ : ℕ) (keys′ register′ : List ℕ) (units′ : ℕ) (closed′ : Bool) : Type 0 where
+    pub mode-written : code′ ≡ code
+    pub direction-written : decrypting′ ≡ decrypting
+    pub n-written : n′ ≡ n
+    pub m-written : m′ ≡ m
+    pub rounds-written : rounds′ ≡ rounds
+    pub keys-written : keys′ ≡ keys
+    pub register-written : register′ ≡ register
+    pub units-written : units′ ≡ units
+    pub closed-written : closed′ ≡ closed
+
+-- The fields written make the session that `carried` of the crate carry gives for the older fields.
+unfoldable pub HeldCarried : Type 0
+HeldCarried =
+    (code : ℕ) (decrypting : Bool) (n m rounds : ℕ) (keys register : List ℕ) (units : ℕ) (closed : Bool)
+    (code′ : ℕ) (decrypting′ : Bool) (n′ m′ rounds′ : ℕ) (keys′ register′ : List ℕ) (units′ : ℕ) (closed′ : Bool)
+    → CarriedAt code decrypting n m rounds keys register units closed code′ decrypting′ n′ m′ rounds′ keys′ register′ units′ closed′
+    → held code′ decrypting′ n′ m′ rounds′ keys′ register′ units′ closed′ ≡ carried (held32 code decrypting n m rounds keys register units closed)

@@ -1,11 +1,11 @@
 // Sessions, as the crate modes answers them. The caller holds a session's fields apart. A mode is a number: 0 for ECB, 1 for
-// CBC, 2 for CFB, 3 for OFB, 4 for CTR; a number above 4 is none, and the call is answered 12.
+// CBC, 2 for CFB, 3 for OFB, 4 for CTR; a number above 4 is none, and an opening or a feed is answered 12.
 use modes::Opened;
 use modes::Session;
 use rules::Direction;
 use rules::Mode;
 ghost use mathlib.Core.Path.{_≡_};
-ghost use Rattle.capi.specs.Held.{modeOf, modeNumber, directionOf, directionDecrypts, held, OpenedByNumber, OpenedAt, FedAt};
+ghost use Rattle.capi.specs.Held.{modeOf, modeNumber, directionOf, directionDecrypts, held, OpenedByNumber, OpenedAt, FedAt, CarriedAt};
 
 fn mode_of(code: usize) -> Mode
     ensures { λ r. ⌜ r ≡ modeOf code ⌝ }
@@ -91,7 +91,7 @@ pub extern "C" fn conguraha_open(
     rounds: &mut usize,
     keys: &mut [u8; 240],
     register: &mut [u8; 16],
-    units: &mut u32,
+    units: &mut u64,
     closed: &mut bool,
 ) -> u8
     ensures { λ r. ⌜ OpenedAt mode decrypting n 128 (now (key .entry)) (now (iv .entry)) r (now («held_mode» .exit)) (now («held_decrypting» .exit)) (now («held_n» .exit)) (now («held_m» .exit)) (now (rounds .exit)) (now (keys .exit)) (now (register .exit)) (now (units .exit)) (now (closed .exit)) ⌝ }
@@ -132,7 +132,7 @@ pub extern "C" fn conguraha_open_counter(
     rounds: &mut usize,
     keys: &mut [u8; 240],
     register: &mut [u8; 16],
-    units: &mut u32,
+    units: &mut u64,
     closed: &mut bool,
 ) -> u8
     ensures { λ r. ⌜ OpenedAt mode decrypting n m (now (key .entry)) (now (iv .entry)) r (now («held_mode» .exit)) (now («held_decrypting» .exit)) (now («held_n» .exit)) (now («held_m» .exit)) (now (rounds .exit)) (now (keys .exit)) (now (register .exit)) (now (units .exit)) (now (closed .exit)) ⌝ }
@@ -166,7 +166,7 @@ pub extern "C" fn conguraha_feed(
     rounds: usize,
     keys: &[u8; 240],
     register: &mut [u8; 16],
-    units: &mut u32,
+    units: &mut u64,
     closed: &mut bool,
     input: &[u8],
     bits: usize,
@@ -199,4 +199,40 @@ pub extern "C" fn conguraha_feed(
     *closed = next.closed;
     *runs = fed.runs;
     fed.number
+}
+
+// Writes every field of the session that an older one's fields make, carried over. A number that is no mode stays what it is, and
+// feeds go on to answer 12.
+#[no_mangle]
+pub extern "C" fn conguraha_carry(
+    mode: usize,
+    decrypting: bool,
+    n: usize,
+    m: usize,
+    rounds: usize,
+    keys: &[u8; 240],
+    register: &[u8; 16],
+    units: u32,
+    closed: bool,
+    held_mode: &mut usize,
+    held_decrypting: &mut bool,
+    held_n: &mut usize,
+    held_m: &mut usize,
+    held_rounds: &mut usize,
+    held_keys: &mut [u8; 240],
+    held_register: &mut [u8; 16],
+    held_units: &mut u64,
+    held_closed: &mut bool,
+)
+    ensures { λ r. ⌜ CarriedAt mode decrypting n m rounds (now (keys .entry)) (now (register .entry)) units closed (now («held_mode» .exit)) (now («held_decrypting» .exit)) (now («held_n» .exit)) (now («held_m» .exit)) (now («held_rounds» .exit)) (now («held_keys» .exit)) (now («held_register» .exit)) (now («held_units» .exit)) (now («held_closed» .exit)) ⌝ }
+{
+    *held_mode = mode;
+    *held_decrypting = decrypting;
+    *held_n = n;
+    *held_m = m;
+    *held_rounds = rounds;
+    *held_keys = *keys;
+    *held_register = *register;
+    *held_units = units as u64;
+    *held_closed = closed;
 }

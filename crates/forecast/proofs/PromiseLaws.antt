@@ -40,7 +40,7 @@ no-bits-free mode n cost unit f =
 module _ {s : Session} {input : List ℕ} {count : ℕ} {out : List ℕ} {place : ℕ} {r : Fed} {after : List ℕ} (fed : FedBy s input count out place r after) where
   -- its forecast is accepted too
   number-zero : r .number ≡ 0 → forecastNumber (s .mode) (s .n) count ≡ 0
-  number-zero taken = let q = asked fed taken in all-yes (s .mode) (s .n) count (q .unit) (q .limit) (q .whole)
+  number-zero taken = let q = asked fed taken in all-yes (s .mode) (s .n) count (q .unit) (q .small) (q .whole)
 
   -- the bytes written
   text-bytes : Arrays s → r .number ≡ 0 → length (pack (sessionText s (fedText input count))) ≡ bytesFor count

@@ -9,8 +9,8 @@ use borrow.Author.Tests.{ltb-true}
 use lib.Dec.{ltb}
 use Rattle.rules.specs.declared.Mode.{Mode}
 use Rattle.modes.specs.declared.session.Session.{Session}
-use Rattle.questions.specs.Questions.{Question, ask, openQuestions, feedQuestions}
-use Rattle.modes.specs.Sessions.{openNumber, feedNumber}
+use Rattle.questions.specs.Questions.{Question, ask, maxUnits, openQuestions, feedQuestions}
+use Rattle.modes.specs.Sessions.{openNumber, feedNumberWithin, feedNumber}
 use Rattle.grammar.proofs.RangeLaws.{and-first, and-second}
 
 -- Is each number of the list below 100?
@@ -34,6 +34,6 @@ unfolding openNumber openQuestions
 open-prints mode n m key iv = ask-prints (openQuestions mode n m key iv) refl
 
 pub feed-prints : (s : Session) (bytes count size place : ℕ) → feedNumber s bytes count size place < 100
-unfolding feedNumber feedQuestions
+unfolding feedNumberWithin feedQuestions
 feed-prints s bytes count size place =
-    ask-prints (feedQuestions (s .mode) (s .rounds) (s .n) (s .m) (s .closed) (s .units) bytes count size place) refl
+    ask-prints (feedQuestions maxUnits (s .mode) (s .rounds) (s .n) (s .m) (s .closed) (s .units) bytes count size place) refl

@@ -6,7 +6,7 @@ use mathlib.Core.List.{List, _∷_, _++_, append-assoc, append-nil}
 use lib.ListN.{length}
 use Rattle.rules.specs.Rules.{unitsIn}
 use Rattle.modes.specs.declared.session.Session.{Session}
-use Rattle.modes.specs.Sessions.{FedBy, feedNumber, fedText}
+use Rattle.modes.specs.Sessions.{FedBy, feedNumberWithin, fedText}
 use Rattle.modes.specs.Machine.{Machine, machineUnits, machineNumber, machineFeed}
 use Rattle.modes.specs.Lists.{Call, Run, done, fed, accepted, fedBits, writtenBits, allFed, allWritten, machineAfter}
 use Rattle.modes.specs.Promises.{AgreesThroughout}
@@ -28,7 +28,7 @@ pub record Agree (m : Machine) (c : Call) : Type 0 where
 
 module _ (m : Machine) (c : Call) (f : FedBy (sessionOf m) (c .input) (c .count) (c .out) (c .place) (c .result) (c .after)) where
   pub same-number : c .result .number ≡ machineNumber m (length (c .input)) (c .count) (length (c .out)) (c .place)
-  unfolding sessionOf feedNumber machineNumber
+  unfolding sessionOf feedNumberWithin machineNumber
   same-number = f .answer
 
   machine-fed : fedMachine m c ≡ cond (accepted c) (machineUnits (unitsIn (m .opening .n) (c .count)) m (fedText (c .input) (c .count))) m

@@ -1,6 +1,6 @@
 -- Demand 1 for one feed: a refused one changes nothing, an accepted one exactly the named bytes; and the runs that it made. Assumes
 -- nothing.
-use Prim.Native.Nat.{ℕ, _+_, _%_}
+use Prim.Native.Nat.{ℕ, _+_, _%_, _≤_}
 use mathlib.Core.Path.{_≡_, refl, sym, ap, _∙_}
 use mathlib.Core.Bool.{Bool, true, false, cond, not}
 use mathlib.Core.List.{List, [], append-nil}
@@ -8,30 +8,38 @@ use native.Mathlib.Omega.{arith}
 use lib.Dec.{eqb}
 use native.Mathlib.Nat.{add-zero}
 use lib.ListN.{length, length-take, take-append-drop}
-use borrow.Author.Tests.{eq-eqb, ne-eqb, eqb-true, eqb-false, not-true}
+use borrow.Author.Tests.{eq-eqb, ne-eqb, eqb-true, eqb-false, lt-leb, not-true}
 use Rattle.bits.specs.Texts.{pack, packTo, bytesFor}
 use Rattle.bits.proofs.Texts.{length-bits}
 use Rattle.rules.specs.Lengths.{wholeUnits}
+use Rattle.rules.specs.Rules.{unitsIn}
 use Rattle.rules.proofs.Taken.{unit-bounds}
+use Rattle.questions.specs.Questions.{ask, unitsOk, maxUnits, feedQuestions}
 use Rattle.modes.specs.declared.session.Session.{Session}
 use Rattle.modes.specs.declared.session.Fed.{Fed}
-use Rattle.modes.specs.Sessions.{Arrays, FedBy, fedText, fedSession, sessionText, sessionRuns, feedNumber, written}
-use Rattle.modes.specs.Promises.{RefusedUnchanged, ExactlyTheNamed, AcceptedExact, NothingFed, ClosesAfterShort}
+use Rattle.modes.specs.Sessions.{Arrays, FedWithin, FedBy, fedText, fedSession, sessionText, sessionRuns, feedNumberWithin, feedNumber, written}
+use Rattle.modes.specs.Promises.{RefusedUnchanged, ExactlyTheNamed, AcceptedExact, NothingFed, ClosesAfterShort, PastTheLimit}
 use Rattle.questions.proofs.QuestionLaws.{FeedTaken, feed-taken}
 use Rattle.modes.proofs.WrittenLaws.{written-before, written-behind, written-text, written-spare, written-size}
 use Rattle.modes.proofs.SessionLaws.{Ready, text-length, text-none, fed-none}
 
-pub refused-unchanged : RefusedUnchanged
-unfolding RefusedUnchanged
-refused-unchanged s input count out place r after fed refused =
-    let nay = ne-eqb (feedNumber s (length input) count (length out) place) 0 (λ e. refused (fed .answer ∙ e)) in
+-- A refused feed, whatever the limit of units.
+pub refused-same : {limit : ℕ} {s : Session} {input : List ℕ} {count : ℕ} {out : List ℕ} {place : ℕ} {r : Fed} {after : List ℕ}
+    → FedWithin limit s input count out place r after → (r .number ≡ 0 → ⊥) → (r .session ≡ s) × (after ≡ out)
+refused-same {limit} {s} {input} {count} {out} {place} fed refused =
+    let nay = ne-eqb (feedNumberWithin limit s (length input) count (length out) place) 0 (λ e. refused (fed .answer ∙ e)) in
     (rw nay at (fed .session), rw nay at (fed .output))
 
-module _ {s : Session} {input : List ℕ} {count : ℕ} {out : List ℕ} {place : ℕ} {r : Fed} {after : List ℕ}
-    (fed : FedBy s input count out place r after) (accepted : r .number ≡ 0) where
-  pub asked : FeedTaken (s .mode) (s .rounds) (s .n) (s .m) (s .closed) (s .units) (length input) count (length out) place
-  unfolding feedNumber
-  asked = feed-taken (s .mode) (s .rounds) (s .n) (s .m) (s .closed) (s .units) (length input) count (length out) place (sym (fed .answer) ∙ accepted)
+pub refused-unchanged : RefusedUnchanged
+unfolding RefusedUnchanged
+refused-unchanged s input count out place r after fed refused = refused-same fed refused
+
+-- An accepted feed, whatever the limit of units.
+module _ {limit : ℕ} {s : Session} {input : List ℕ} {count : ℕ} {out : List ℕ} {place : ℕ} {r : Fed} {after : List ℕ}
+    (fed : FedWithin limit s input count out place r after) (accepted : r .number ≡ 0) where
+  pub asked : FeedTaken limit (s .mode) (s .rounds) (s .n) (s .m) (s .closed) (s .units) (length input) count (length out) place
+  unfolding feedNumberWithin
+  asked = feed-taken limit (s .mode) (s .rounds) (s .n) (s .m) (s .closed) (s .units) (length input) count (length out) place (sym (fed .answer) ∙ accepted)
 
   pub accepted-not-closed : s .closed ≡ false
   accepted-not-closed = asked .not-closed
@@ -46,8 +54,8 @@ module _ {s : Session} {input : List ℕ} {count : ℕ} {out : List ℕ} {place 
   pub accepted-ready : Arrays s → Ready s
   accepted-ready arrays = record { arrays = arrays; rounds-good = asked .rounds-good; unit = asked .unit }
 
-  number-zero : eqb (feedNumber s (length input) count (length out) place) 0 ≡ true
-  number-zero = eq-eqb (feedNumber s (length input) count (length out) place) 0 (sym (fed .answer) ∙ accepted)
+  number-zero : eqb (feedNumberWithin limit s (length input) count (length out) place) 0 ≡ true
+  number-zero = eq-eqb (feedNumberWithin limit s (length input) count (length out) place) 0 (sym (fed .answer) ∙ accepted)
 
   pub accepted-session : r .session ≡ fedSession s (fedText input count)
   accepted-session = rw number-zero at (fed .session)
@@ -94,6 +102,23 @@ runs-done {s} {input} {count} {out} {place} fed =
     by-answer : (b : Bool) → cond b (fedSession s (fedText input count)) s .units ≡ s .units + cond b (sessionRuns s (fedText input count)) 0
     by-answer true = refl
     by-answer false = sym (add-zero (s .units))
+
+-- ---- the limit of units
+
+pub units-within : {limit : ℕ} {s : Session} {input : List ℕ} {count : ℕ} {out : List ℕ} {place : ℕ} {r : Fed} {after : List ℕ}
+    → FedWithin limit s input count out place r after → s .units ≤ limit → r .session .units ≤ limit
+unfolding fedSession
+units-within {limit} {s} {r = r} fed before = by-number (eqb (r .number) 0) refl
+  where
+    by-number : (b : Bool) → eqb (r .number) 0 ≡ b → r .session .units ≤ limit
+    by-number true e =
+        let number = eqb-true (r .number) 0 e in
+        rw (accepted-session fed number, accepted-count fed number) (asked fed number .counted)
+    by-number false e = rw (refused-same fed (eqb-false (r .number) 0 e) .0) before
+
+pub past-the-limit : PastTheLimit
+unfolding PastTheLimit feedNumberWithin feedQuestions unitsOk ask
+past-the-limit s bytes count size place past = rw (lt-leb (s .units + unitsIn (s .n) count) maxUnits past)
 
 -- ---- a feed of 0 bits, and closing
 

@@ -1,6 +1,6 @@
 -- A list of feeds is as one feed of all the bits that were accepted: the text written and the session at the end are that feed's.
 -- Assumes nothing.
-use Prim.Native.Nat.{_+_, _%_}
+use Prim.Native.Nat.{_+_, _%_, _≤_}
 use mathlib.Core.Path.{_≡_, refl, sym, ap, ap₂, _∙_}
 use mathlib.Core.Bool.{Bool, true, false, true≢false}
 use mathlib.Core.List.{List, [], _∷_, _++_, append-nil}
@@ -9,12 +9,13 @@ use lib.ListN.{length, take, drop}
 use borrow.Author.Tests.{eqb-true, eqb-false}
 use Rattle.bits.specs.Texts.{bits}
 use Rattle.rules.specs.Lengths.{wholeUnits}
+use Rattle.questions.specs.Questions.{maxUnits}
 use Rattle.modes.specs.declared.session.Session.{Session}
 use Rattle.modes.specs.Sessions.{FedBy, fedText, fedSession, sessionText}
 use Rattle.modes.specs.Lists.{Call, Run, done, fed, accepted, fedBits, writtenBits, allFed, allWritten, allRuns}
-use Rattle.modes.specs.Promises.{RefusedUnchanged, RunsAddUp}
+use Rattle.modes.specs.Promises.{RefusedUnchanged, RunsAddUp, UnitsStayWithin}
 use Rattle.modes.proofs.SessionLaws.{Ready, some-bits, fed-ready, text-none, fed-none, whole-none, whole-fed, text-append, fed-append, whole-units-append}
-use Rattle.modes.proofs.FeedLaws.{refused-unchanged, accepted-not-closed, accepted-count, accepted-whole, accepted-session, accepted-named, runs-done}
+use Rattle.modes.proofs.FeedLaws.{refused-unchanged, accepted-not-closed, accepted-count, accepted-whole, accepted-session, accepted-named, runs-done, units-within}
 
 -- ---- one call
 
@@ -146,6 +147,16 @@ unfolding allRuns
 runs-added {s} done = sym (add-zero (s .units))
 runs-added {s} (fed {c = c} {cs = cs} f rest) =
     runs-added rest ∙ ap (λ k. k + allRuns cs) (runs-done f) ∙ add-assoc (s .units) (c .result .runs) (allRuns cs)
+
+-- ---- the limit of units
+
+pub units-stay-within : UnitsStayWithin
+unfolding UnitsStayWithin
+units-stay-within s t calls before run = stay run before
+  where
+    stay : {s t : Session} {calls : List Call} → Run s calls t → s .units ≤ maxUnits → t .units ≤ maxUnits
+    stay done before = before
+    stay (fed f rest) before = stay rest (units-within f before)
 
 pub runs-add-up : RunsAddUp
 unfolding RunsAddUp

@@ -7,9 +7,9 @@ use Rattle.rules.specs.declared.Mode.{Mode}
 use Rattle.rules.specs.declared.Mode.the-variants.{Ecb, Cbc, Cfb, Ofb, Ctr}
 use Rattle.rules.specs.Lengths.{counterLengthOk}
 use Rattle.rules.specs.Rules.{unitsIn}
-use Rattle.questions.specs.Questions.{ask, sessionOk, unitsOk, countersOk, openQuestions, feedQuestions}
+use Rattle.questions.specs.Questions.{ask, sessionOk, unitsOk, countersOk, maxUnits, openQuestions, feedQuestions}
 use Rattle.questions.proofs.QuestionLaws.{counters-enough}
-use Rattle.modes.specs.Sessions.{openNumber, feedNumber}
+use Rattle.modes.specs.Sessions.{openNumber, feedNumberWithin}
 use Rattle.modes.specs.Counters.{WholeBlockOpening, WholeBlockFeed}
 
 whole-block : (mode : Mode) → counterLengthOk mode 128 ≡ true
@@ -25,10 +25,10 @@ unfolding WholeBlockOpening openNumber ask openQuestions
 whole-block-opening mode n key iv = rw (whole-block mode)
 
 -- Question 15 behind question 9.
-never-15 : (done new : ℕ) → _≡_ {A = ℕ} (cond (unitsOk done new) (cond (countersOk 128 done new) 0 15) 9) (cond (unitsOk done new) 0 9)
-never-15 done new = by-answer (unitsOk done new) refl
+never-15 : (done new : ℕ) → _≡_ {A = ℕ} (cond (unitsOk maxUnits done new) (cond (countersOk 128 done new) 0 15) 9) (cond (unitsOk maxUnits done new) 0 9)
+never-15 done new = by-answer (unitsOk maxUnits done new) refl
   where
-    by-answer : (b : Bool) → unitsOk done new ≡ b → _≡_ {A = ℕ} (cond b (cond (countersOk 128 done new) 0 15) 9) (cond b 0 9)
+    by-answer : (b : Bool) → unitsOk maxUnits done new ≡ b → _≡_ {A = ℕ} (cond b (cond (countersOk 128 done new) 0 15) 9) (cond b 0 9)
     by-answer true few = rw (counters-enough 128 done new (omega arith) few)
     by-answer false many = refl
 
@@ -37,6 +37,6 @@ and-true true = refl
 and-true false = refl
 
 pub whole-block-feed : WholeBlockFeed
-unfolding WholeBlockFeed feedNumber ask feedQuestions sessionOk
+unfolding WholeBlockFeed feedNumberWithin ask feedQuestions sessionOk
 whole-block-feed s bytes count size place whole =
     rw (whole, whole-block (s .mode), and-true, never-15 (s .units) (unitsIn (s .n) count))

@@ -13,7 +13,7 @@ use Rattle.rules.specs.declared.Mode.the-variants.{Ctr}
 use Rattle.rules.specs.declared.Direction.{Direction}
 use Rattle.rules.specs.Lengths.{unitLengthOk, wholeUnits}
 use Rattle.rules.specs.Rules.{unitsIn}
-use Rattle.questions.specs.Questions.{ask, ivOk, bitsOk, roomOk, unitsOk, maxBits}
+use Rattle.questions.specs.Questions.{ask, ivOk, bitsOk, roomOk, unitsOk, maxBits, maxUnits}
 use Rattle.modes.specs.declared.session.Session.{Session}
 use Rattle.modes.specs.declared.session.Opened.{Opened}
 use Rattle.modes.specs.Sessions.{Arrays, openNumber, OpenedBy, feedNumber}
@@ -60,4 +60,4 @@ WholeBlockFeed =
     ≡ ask
     (record { yes = roundsOk (s .rounds) && unitLengthOk (s .mode) (s .n); number = 4 } ∷ record { yes = not (s .closed); number = 5 }
     ∷ record { yes = bitsOk maxBits bytes count; number = 6 } ∷ record { yes = wholeUnits (s .mode) (s .n) count; number = 7 }
-    ∷ record { yes = roomOk size place (bytesFor count); number = 8 } ∷ record { yes = unitsOk (s .units) (unitsIn (s .n) count); number = 9 } ∷ [])
+    ∷ record { yes = roomOk size place (bytesFor count); number = 8 } ∷ record { yes = unitsOk maxUnits (s .units) (unitsIn (s .n) count); number = 9 } ∷ [])

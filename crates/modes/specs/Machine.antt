@@ -9,7 +9,7 @@ use Rattle.bits.specs.Texts.{bits}
 use Rattle.aes.specs.Calls.{keyRounds, encrypted, decrypted}
 use Rattle.rules.specs.declared.Mode.{Mode}
 use Rattle.rules.specs.Rules.{start, next, plain, unitsIn}
-use Rattle.questions.specs.Questions.{ask, feedQuestions}
+use Rattle.questions.specs.Questions.{ask, maxUnits, feedQuestions}
 
 -- An opening's arguments, but for the direction.
 pub record Opening : Type 0 where
@@ -53,7 +53,7 @@ machineUnits (suc k) m x = machineUnits k (machineUnit m (take (m .opening .n) x
 -- The number that it answers to a feed: the feed's questions, of the arguments and of what it holds.
 unfoldable pub machineNumber : Machine → ℕ → ℕ → ℕ → ℕ → ℕ
 machineNumber m bytes count size place =
-    ask (feedQuestions (m .opening .mode) (keyRounds (m .opening .key)) (m .opening .n) (m .opening .m) (m .closed) (m .units) bytes count size place)
+    ask (feedQuestions maxUnits (m .opening .mode) (keyRounds (m .opening .key)) (m .opening .n) (m .opening .m) (m .closed) (m .units) bytes count size place)
 
 -- A feed: at a 'no' it keeps all it holds, otherwise it takes the feed's bits unit by unit.
 unfoldable pub machineFeed : Machine → List ℕ → ℕ → ℕ → ℕ → Machine

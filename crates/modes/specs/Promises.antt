@@ -16,10 +16,11 @@ use Rattle.rules.specs.Rules.{unitAt, unitsIn}
 use Rattle.rules.specs.Standard.{standard}
 use Rattle.rules.specs.Recovery.{recovers, recoveryUnits}
 use Rattle.rules.specs.Promises.{other, CommonRun, Differ, OneUnitChanged, OneBlockChanged, OnlyBlockDamaged, OneBlockDamaged, OneSegmentDamaged}
+use Rattle.questions.specs.Questions.{ask, maxUnits, feedQuestionsTo8}
 use Rattle.modes.specs.declared.session.Session.{Session}
 use Rattle.modes.specs.declared.session.Opened.{Opened}
 use Rattle.modes.specs.declared.session.Fed.{Fed}
-use Rattle.modes.specs.Sessions.{Arrays, OpenedBy, refusedSession, FedBy, sessionText, fedText}
+use Rattle.modes.specs.Sessions.{Arrays, OpenedBy, refusedSession, feedNumber, FedBy, sessionText, fedText}
 use Rattle.modes.specs.Machine.{Opening, Machine, machineStart, machineNumber, machineFeed}
 use Rattle.modes.specs.Lists.{Call, Run, allFed, allWritten, writtenBits, allRuns, machineAfter, registers}
 
@@ -88,6 +89,20 @@ UndoneByTheOther =
 -- Over any list of feeds, refused ones among them, the runs of the block cipher add up to the units done.
 unfoldable pub RunsAddUp : Type 0
 RunsAddUp = (s t : Session) (calls : List Call) → Run s calls t → t .units ≡ s .units + allRuns calls
+
+-- ---- Request 07
+
+-- No count above the limit arises: a session that has done no more units than it allows has done no more after any list of feeds, refused
+-- ones among them.
+unfoldable pub UnitsStayWithin : Type 0
+UnitsStayWithin = (s t : Session) (calls : List Call) → s .units ≤ maxUnits → Run s calls t → t .units ≤ maxUnits
+
+-- 9 in time: a feed that would lead past the limit is answered 9, or by a question before that one. Question 15 is not reached.
+unfoldable pub PastTheLimit : Type 0
+PastTheLimit =
+    (s : Session) (bytes count size place : ℕ) → maxUnits < s .units + unitsIn (s .n) count
+    → feedNumber s bytes count size place
+    ≡ ask (feedQuestionsTo8 (s .mode) (s .rounds) (s .n) (s .m) (s .closed) bytes count size place ++ record { yes = false; number = 9 } ∷ [])
 
 -- ---- Demand 3
 

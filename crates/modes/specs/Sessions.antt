@@ -17,7 +17,7 @@ use Rattle.rules.specs.Rules.{start, unitsIn, registerAt, worked}
 use Rattle.modes.specs.declared.session.Session.{Session}
 use Rattle.modes.specs.declared.session.Opened.{Opened}
 use Rattle.modes.specs.declared.session.Fed.{Fed}
-use Rattle.questions.specs.Questions.{ask, openQuestions, feedQuestions}
+use Rattle.questions.specs.Questions.{ask, maxUnits, openQuestions, feedQuestions}
 
 -- What a session's type says of its arrays, and the lists of a contract do not: 16 register bytes, and 240 key bytes.
 pub record Arrays (s : Session) : Type 0 where
@@ -56,8 +56,10 @@ sessionText s x = worked (Enc (s .rounds) (s .keys)) (Dec (s .rounds) (s .keys))
 unfoldable pub sessionRegister : Session → List Bool → ℕ → List ℕ
 sessionRegister s x t = registerAt (Enc (s .rounds) (s .keys)) (Dec (s .rounds) (s .keys)) (s .mode) (s .direction) (s .n) (s .m) (s .register) x t
 
-unfoldable pub feedNumber : Session → ℕ → ℕ → ℕ → ℕ → ℕ
-feedNumber s bytes count size place = ask (feedQuestions (s .mode) (s .rounds) (s .n) (s .m) (s .closed) (s .units) bytes count size place)
+-- The number where a session may do `limit` units.
+unfoldable pub feedNumberWithin : ℕ → Session → ℕ → ℕ → ℕ → ℕ → ℕ
+feedNumberWithin limit s bytes count size place =
+    ask (feedQuestions limit (s .mode) (s .rounds) (s .n) (s .m) (s .closed) (s .units) bytes count size place)
 
 -- The session after an accepted feed of x: the register moved by its units, the units counted, closed by a short one.
 unfoldable pub fedSession : Session → List Bool → Session
@@ -82,8 +84,17 @@ sessionRuns s x = unitsIn (s .n) (length x)
 unfoldable pub written : List ℕ → ℕ → List Bool → List ℕ
 written out place x = take place out ++ pack x ++ drop (place + length (pack x)) out
 
-pub record FedBy (s : Session) (input : List ℕ) (count : ℕ) (out : List ℕ) (place : ℕ) (r : Fed) (after : List ℕ) : Type 0 where
-  pub answer : r .number ≡ feedNumber s (length input) count (length out) place
-  pub session : r .session ≡ cond (eqb (feedNumber s (length input) count (length out) place) 0) (fedSession s (fedText input count)) s
-  pub output : after ≡ cond (eqb (feedNumber s (length input) count (length out) place) 0) (written out place (sessionText s (fedText input count))) out
-  pub runs : r .runs ≡ cond (eqb (feedNumber s (length input) count (length out) place) 0) (sessionRuns s (fedText input count)) 0
+-- What a feed gives where a session may do `limit` units.
+pub record FedWithin (limit : ℕ) (s : Session) (input : List ℕ) (count : ℕ) (out : List ℕ) (place : ℕ) (r : Fed) (after : List ℕ) : Type 0 where
+  pub answer : r .number ≡ feedNumberWithin limit s (length input) count (length out) place
+  pub session : r .session ≡ cond (eqb (feedNumberWithin limit s (length input) count (length out) place) 0) (fedSession s (fedText input count)) s
+  pub output : after ≡ cond (eqb (feedNumberWithin limit s (length input) count (length out) place) 0) (written out place (sessionText s (fedText input count))) out
+  pub runs : r .runs ≡ cond (eqb (feedNumberWithin limit s (length input) count (length out) place) 0) (sessionRuns s (fedText input count)) 0
+
+-- ---- the limit of document 01, as request 07 has it
+
+abbrev pub feedNumber : Session → ℕ → ℕ → ℕ → ℕ → ℕ
+feedNumber = feedNumberWithin maxUnits
+
+abbrev pub FedBy : Session → List ℕ → ℕ → List ℕ → ℕ → Fed → List ℕ → Type 0
+FedBy = FedWithin maxUnits

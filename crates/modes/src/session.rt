@@ -14,7 +14,7 @@ pub struct Session {
     pub rounds: usize,
     pub keys: [u8; 240],
     pub register: [u8; 16],
-    pub units: u32,
+    pub units: u64,
     pub closed: bool,
 }
 
@@ -39,7 +39,7 @@ impl Session {
     pub const MAX_BITS: usize = questions::MAX_BITS;
 
     // The most units that a session does.
-    pub const MAX_UNITS: u32 = questions::MAX_UNITS;
+    pub const MAX_UNITS: u64 = questions::MAX_UNITS;
 
     // What a refused opening gives.
     pub fn refused() -> Session
@@ -104,7 +104,7 @@ impl Session {
         // The IV, and zero bytes where there is none.
         let register = bits::window(iv, 0, questions::BLOCK_BITS);
         let keys = schedule.keys;
-        let units: u32 = 0;
+        let units: u64 = 0;
         let session = Session {
             mode,
             direction,
@@ -149,7 +149,7 @@ impl Session {
         let m = self.m;
         let worked = work::work(self, input, bits, &mut out[place..]);
         let next = worked.register;
-        let done = self.units + questions::units_in(n, bits) as u32;
+        let done = self.units + questions::units_in(n, bits) as u64;
         let rest = bits % n;
         let session = Session {
             mode,

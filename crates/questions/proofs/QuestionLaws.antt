@@ -65,12 +65,12 @@ pub room-there : (size place bytes : ℕ) → roomOk size place bytes ≡ true �
 unfolding roomOk
 room-there size place bytes e = leb-true bytes (size - place) (both-true (leb place size) (leb bytes (size - place)) e .1)
 
--- From m = 32 on there are more counter blocks than units.
-pub counters-enough : (m done new : ℕ) → 32 ≤ m → unitsOk done new ≡ true → countersOk m done new ≡ true
+-- From m = 64 on there are more counter blocks than units.
+pub counters-enough : (m done new : ℕ) → 64 ≤ m → unitsOk maxUnits done new ≡ true → countersOk m done new ≡ true
 unfolding unitsOk countersOk
 counters-enough m done new long few =
     let units : done + new ≤ maxUnits = leb-true _ _ few in
-    let more : 2 ^ 32 ≤ 2 ^ m = pow-le-pow-right (zero-lt-suc 1) long in
+    let more : 2 ^ 64 ≤ 2 ^ m = pow-le-pow-right (zero-lt-suc 1) long in
     le-leb (done + new) (2 ^ m) (omega arith)
 
 -- ---- all answers
@@ -91,24 +91,24 @@ opening-taken mode n m key iv e1 =
     let (q14, e5) = first-yes _ _ (omega arith) e4 in
     record { key-size = q1; iv-size = q2; unit = q3; counter = q14 }
 
--- What an accepted feed was asked.
-pub record FeedTaken (mode : Mode) (rounds n m : ℕ) (closed : Bool) (units bytes count size place : ℕ) : Type 0 where
+-- What an accepted feed was asked, where a session may do `limit` units.
+pub record FeedTaken (limit : ℕ) (mode : Mode) (rounds n m : ℕ) (closed : Bool) (units bytes count size place : ℕ) : Type 0 where
   pub rounds-good : roundsOk rounds ≡ true
   pub unit : unitLengthOk mode n ≡ true
   pub counter : counterLengthOk mode m ≡ true
   pub not-closed : closed ≡ false
   pub there : count ≤ 8 * bytes
-  pub limit : count ≤ maxBits
+  pub small : count ≤ maxBits
   pub whole : wholeUnits mode n count ≡ true
   pub inside : place ≤ size
   pub room : bytesFor count ≤ size - place
-  pub counted : units + unitsIn n count ≤ maxUnits
+  pub counted : units + unitsIn n count ≤ limit
   pub blocks : units + unitsIn n count ≤ 2 ^ m
 
-pub feed-taken : (mode : Mode) (rounds n m : ℕ) (closed : Bool) (units bytes count size place : ℕ)
-    → ask (feedQuestions mode rounds n m closed units bytes count size place) ≡ 0 → FeedTaken mode rounds n m closed units bytes count size place
+pub feed-taken : (limit : ℕ) (mode : Mode) (rounds n m : ℕ) (closed : Bool) (units bytes count size place : ℕ)
+    → ask (feedQuestions limit mode rounds n m closed units bytes count size place) ≡ 0 → FeedTaken limit mode rounds n m closed units bytes count size place
 unfolding feedQuestions unitsOk countersOk
-feed-taken mode rounds n m closed units bytes count size place e4 =
+feed-taken limit mode rounds n m closed units bytes count size place e4 =
     let (q4, e5) = first-yes _ _ (omega arith) e4 in
     let (q5, e6) = first-yes _ _ (omega arith) e5 in
     let (q6, e7) = first-yes _ _ (omega arith) e6 in
@@ -123,7 +123,7 @@ feed-taken mode rounds n m closed units bytes count size place e4 =
       counter = good .2;
       not-closed = not-true closed q5;
       there = bits-there maxBits bytes count q6;
-      limit = bits-small maxBits bytes count q6;
+      small = bits-small maxBits bytes count q6;
       whole = q7;
       inside = room-inside size place (bytesFor count) q8;
       room = room-there size place (bytesFor count) q8;

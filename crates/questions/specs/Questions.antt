@@ -2,7 +2,7 @@
 -- number.
 use Prim.Native.Nat.{ℕ, _+_, _-_, _*_, _^_}
 use mathlib.Core.Bool.{Bool, cond, not, _&&_}
-use mathlib.Core.List.{List, [], _∷_}
+use mathlib.Core.List.{List, [], _∷_, _++_}
 use lib.Dec.{leb, eqb}
 use lib.ListN.{length}
 use Rattle.bits.specs.Texts.{bytesFor}
@@ -29,9 +29,9 @@ ask (q ∷ qs) = cond (q .yes) (ask qs) (q .number)
 abbrev pub maxBits : ℕ
 maxBits = 524288
 
--- The most units that a session does: the largest number of 32 bits.
+-- The most units that a session does: the largest number of 64 bits.
 abbrev pub maxUnits : ℕ
-maxUnits = 4294967295
+maxUnits = 18446744073709551615
 
 -- ---- the questions
 
@@ -55,9 +55,9 @@ bitsOk limit bytes bits = leb bits (8 * bytes) && leb bits limit
 unfoldable pub roomOk : ℕ → ℕ → ℕ → Bool
 roomOk size place bytes = leb place size && leb bytes (size - place)
 
--- 9. Are units done plus new units at most the unit limit?
-unfoldable pub unitsOk : ℕ → ℕ → Bool
-unitsOk done new = leb (done + new) maxUnits
+-- 9. Are units done plus new units at most the limit?
+unfoldable pub unitsOk : ℕ → ℕ → ℕ → Bool
+unitsOk limit done new = leb (done + new) limit
 
 -- 15. Are units done plus new units at most the counter blocks that m bits have?
 unfoldable pub countersOk : ℕ → ℕ → ℕ → Bool
@@ -70,10 +70,15 @@ openQuestions mode n m key iv =
     record { yes = keyOk key; number = 1 } ∷ record { yes = ivOk mode iv; number = 2 }
     ∷ record { yes = unitLengthOk mode n; number = 3 } ∷ record { yes = counterLengthOk mode m; number = 14 } ∷ []
 
--- Of a feed: the session's mode, rounds, n, m, closing and units; input bytes, bits, output bytes, place.
-unfoldable pub feedQuestions : Mode → ℕ → ℕ → ℕ → Bool → ℕ → ℕ → ℕ → ℕ → ℕ → List Question
-feedQuestions mode rounds n m closed units bytes bits size place =
+-- Of a feed, before units are counted: the session's mode, rounds, n, m and closing; input bytes, bits, output bytes, place.
+abbrev pub feedQuestionsTo8 : Mode → ℕ → ℕ → ℕ → Bool → ℕ → ℕ → ℕ → ℕ → List Question
+feedQuestionsTo8 mode rounds n m closed bytes bits size place =
     record { yes = sessionOk mode rounds n m; number = 4 } ∷ record { yes = not closed; number = 5 }
     ∷ record { yes = bitsOk maxBits bytes bits; number = 6 } ∷ record { yes = wholeUnits mode n bits; number = 7 }
-    ∷ record { yes = roomOk size place (bytesFor bits); number = 8 } ∷ record { yes = unitsOk units (unitsIn n bits); number = 9 }
-    ∷ record { yes = countersOk m units (unitsIn n bits); number = 15 } ∷ []
+    ∷ record { yes = roomOk size place (bytesFor bits); number = 8 } ∷ []
+
+-- Of a feed, where a session may do `limit` units: those, and the session's units.
+unfoldable pub feedQuestions : ℕ → Mode → ℕ → ℕ → ℕ → Bool → ℕ → ℕ → ℕ → ℕ → ℕ → List Question
+feedQuestions limit mode rounds n m closed units bytes bits size place =
+    feedQuestionsTo8 mode rounds n m closed bytes bits size place
+    ++ record { yes = unitsOk limit units (unitsIn n bits); number = 9 } ∷ record { yes = countersOk m units (unitsIn n bits); number = 15 } ∷ []

@@ -7,7 +7,7 @@ ghost use lib.Dec.{eqb};
 ghost use Rattle.bits.specs.Texts.{bytesFor};
 ghost use Rattle.rules.specs.Lengths.{wholeUnits};
 ghost use Rattle.rules.specs.Rules.{unitsIn};
-ghost use Rattle.questions.specs.Questions.{ask, ivOk, sessionOk, bitsOk, roomOk, unitsOk, countersOk, feedQuestions};
+ghost use Rattle.questions.specs.Questions.{ask, ivOk, sessionOk, bitsOk, roomOk, unitsOk, countersOk, maxUnits, feedQuestions};
 
 // The block, in bytes.
 pub const BLOCK: usize = 16;
@@ -19,7 +19,7 @@ pub const BLOCK_BITS: usize = 8 * BLOCK;
 pub const MAX_BITS: usize = 524288;
 
 // The most units that a session does.
-pub const MAX_UNITS: u32 = 4294967295;
+pub const MAX_UNITS: u64 = 18446744073709551615;
 
 // Question 2, by the IV's length.
 pub fn iv_ok(mode: Mode, iv: &[u8]) -> bool
@@ -95,22 +95,22 @@ pub fn room_ok(size: usize, place: usize, bytes: usize) -> bool
 }
 
 // Question 9.
-fn units_ok(done: u32, new: usize) -> bool
-    ensures { λ r. ⌜ r ≡ unitsOk done new ⌝ }
+fn units_ok(done: u64, new: usize) -> bool
+    ensures { λ r. ⌜ r ≡ unitsOk maxUnits done new ⌝ }
 {
-    new <= (MAX_UNITS - done) as usize
+    new as u64 <= MAX_UNITS - done
 }
 
-// Question 15, of units that question 9 lets pass: they are fewer than 2^32, so 2^m is needed only where it is no more than that.
-fn counters_ok(m: usize, done: u32, new: usize) -> bool
-    requires { ⌜ unitsOk done new ≡ true ⌝ }
+// Question 15, of units that question 9 lets pass: they are fewer than 2^64, so 2^m is needed only where it is less.
+fn counters_ok(m: usize, done: u64, new: usize) -> bool
+    requires { ⌜ unitsOk maxUnits done new ≡ true ⌝ }
     ensures { λ r. ⌜ r ≡ countersOk m done new ⌝ }
 {
-    if m >= 32 {
+    if m >= 64 {
         return true;
     }
-    let most = 1usize << m;
-    done as usize + new <= most
+    let most = 1u64 << m;
+    done + new as u64 <= most
 }
 
 // How many units so many bits have, a short last one included.
@@ -141,13 +141,13 @@ pub fn feed_number(
     n: usize,
     m: usize,
     closed: bool,
-    units: u32,
+    units: u64,
     bytes: usize,
     bits: usize,
     size: usize,
     place: usize,
 ) -> u8
-    ensures { λ r. ⌜ r ≡ ask (feedQuestions mode rounds n m closed units bytes bits size place) ⌝ }
+    ensures { λ r. ⌜ r ≡ ask (feedQuestions maxUnits mode rounds n m closed units bytes bits size place) ⌝ }
 {
     if !session_ok(mode, rounds, n, m) {
         return 4;

@@ -11,6 +11,8 @@ pub enum Command {
     Open,
     OpenCounter,
     Feed,
+    Units,
+    Carry,
     Forecast,
     Place,
     Pad,
@@ -42,6 +44,12 @@ fn named(line: &[u8]) -> Command {
     }
     if is(name, count, b"feed", 6) {
         return Command::Feed;
+    }
+    if is(name, count, b"units", 2) {
+        return Command::Units;
+    }
+    if is(name, count, b"carry", 1) {
+        return Command::Carry;
     }
     if is(name, count, b"forecast", 4) {
         return Command::Forecast;
@@ -101,6 +109,8 @@ pub fn run(
         Command::Open => sessions::open(line, text, state),
         Command::OpenCounter => sessions::open_counter(line, text, state),
         Command::Feed => sessions::feed(line, input, out, text, state),
+        Command::Units => sessions::units(line, text, state),
+        Command::Carry => sessions::carry(text, state),
         Command::Forecast => state.with_end(sessions::forecast(line, text, end)),
         Command::Place => state.with_end(counters::place(line, text, end)),
         Command::Pad => state.with_end(texts::pad(line, input, out, text, end)),

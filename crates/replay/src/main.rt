@@ -5,6 +5,8 @@
 //     open MODE N E|D KEY IV                         NUMBER, of an opening with M = 128
 //     open-counter MODE N M E|D KEY IV               NUMBER
 //     feed BITS OUTLEN PLACE FILL INPUT              NUMBER OUT R UNITS CLOSED RUNS
+//     units COUNT                                    COUNT: the session has done that many units from now on, a test's means
+//     carry                                          UNITS: the session goes through the older release's, and is carried over
 //     forecast MODE N BITS                           NUMBER BYTES RUNS
 //     place M IV BLOCK                               NUMBER PLACE, of BLOCK in the message: IV, BLOCK and PLACE are 16 bytes
 //     pad BITS OUTLEN PLACE FILL INPUT               NUMBER LENGTH OUT
@@ -17,7 +19,8 @@
 //
 // A session that a refused opening gave is there before the first opening and `keep`. A line of another form prints `?` and
 // changes nothing; so does one that is too long: INPUT, TEXT and OUTLEN have at most `MAX_BYTES` bytes, and the whole line, without
-// its line feed, `MAX_LINE`. A last line that no line feed ends counts if it is not empty.
+// its line feed, `MAX_LINE`. So does `carry` where the units do not fit in the older release's 32 bits. A last line that no line feed
+// ends counts if it is not empty.
 mod arguments;
 mod commands;
 mod counters;

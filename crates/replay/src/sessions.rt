@@ -1,4 +1,4 @@
-// The commands open, open-counter, feed and forecast.
+// The commands open, open-counter, feed, units, carry and forecast.
 use crate::arguments::Output;
 use crate::arguments::TextWords;
 use crate::arguments::text_words;
@@ -11,6 +11,7 @@ use crate::parts::first;
 use crate::print;
 use crate::state::State;
 use crate::words::word;
+use carry::Session32;
 use grammar::DirectionWord;
 use grammar::ModeWord;
 use grammar::direction_word;
@@ -94,7 +95,7 @@ fn print_fed(text: &mut [u8; 65536], end: usize, fed: Fed, out: &[u8]) -> usize 
     let session = fed.session;
     let register = session.register;
     at = print::block(text, at, register, b' ');
-    at = print::number(text, at, session.units as u64, b' ');
+    at = print::number(text, at, session.units, b' ');
     at = print::number(text, at, session.closed as u64, b' ');
     print::number(text, at, fed.runs as u64, b'\n')
 }
@@ -132,6 +133,47 @@ pub fn feed(
         return bad(state, text);
     };
     feed_into(first(input, count), bits, out, output, text, state)
+}
+
+// units COUNT
+pub fn units(line: &[u8], text: &mut [u8; 65536], state: State) -> State {
+    let Number::Value(count) = decimal(word(line, 1)) else {
+        return bad(state, text);
+    };
+    let mut session = state.session;
+    session.units = count as u64;
+    let end = print::number(text, state.end, session.units, b'\n');
+    state.with_session(session, end)
+}
+
+// The older release's session with these parts, and so many units.
+fn older(session: Session, units: u32) -> Session32 {
+    let mode = session.mode;
+    let direction = session.direction;
+    let keys = session.keys;
+    let register = session.register;
+    Session32 {
+        mode,
+        direction,
+        n: session.n,
+        m: session.m,
+        rounds: session.rounds,
+        keys,
+        register,
+        units,
+        closed: session.closed,
+    }
+}
+
+// carry
+pub fn carry(text: &mut [u8; 65536], state: State) -> State {
+    let session = state.session;
+    if session.units > u32::MAX as u64 {
+        return bad(state, text);
+    }
+    let carried = older(session, session.units as u32).carried();
+    let end = print::number(text, state.end, carried.units, b'\n');
+    state.with_session(carried, end)
 }
 
 // forecast MODE N BITS

@@ -16,7 +16,7 @@ fn show_opened(name: &[u8], opened: Opened) {
     show::number(session.n as u64);
     show::number(session.m as u64);
     show::number(session.rounds as u64);
-    show::number(session.units as u64);
+    show::number(session.units);
     show::number(session.closed as u64);
     show::end();
 }
@@ -272,17 +272,17 @@ fn decrypting(input: &[u8]) {
 }
 
 // One that has done so many units.
-fn late(m: usize, units: u32) -> Session {
+fn late(m: usize, units: u64) -> Session {
     let mut session = encrypting(m);
     session.units = units;
     session
 }
 
-// Question 9 comes before 15, which asks nothing more where m is at least 32.
+// Question 9 comes before 15, which asks nothing more where m is at least 64.
 fn limits(input: &[u8]) {
     let last = Session::MAX_UNITS - 1;
-    feed(b"m 32, one unit left, two fed", late(32, last), input, 256);
-    let none = feed(b"m 32, one unit left, one fed", late(32, last), input, 128);
+    feed(b"m 64, one unit left, two fed", late(64, last), input, 256);
+    let none = feed(b"m 64, one unit left, one fed", late(64, last), input, 128);
     feed(b"then no bits", none, input, 0);
     feed(
         b"m 31, one unit of all left, two fed",

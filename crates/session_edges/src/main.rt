@@ -1,4 +1,4 @@
-// Runs open and feed on the edges that document 01 and request 05 name, and prints what they gave. The file `stdout` has what
+// Runs open and feed on the edges that document 01 and requests 05 and 07 name, and prints what they gave. The file `stdout` has what
 // these say; expected.py, which shares nothing with the crates, writes it.
 mod counters;
 
@@ -54,7 +54,7 @@ fn feed_into(
     let next = fed.session;
     let register = next.register;
     show::block(register);
-    show::number(next.units as u64);
+    show::number(next.units);
     show::number(fed.runs as u64);
     if next.closed {
         show::label(b" closed");

@@ -17,7 +17,7 @@ use Rattle.rules.specs.Rules.{unitsIn, registerAt, worked}
 use Rattle.rules.proofs.Counts.{units-of}
 use Rattle.modes.specs.declared.session.Session.{Session}
 use Rattle.modes.specs.declared.session.Fed.{Fed}
-use Rattle.modes.specs.Sessions.{Arrays, feedNumber, fedText, sessionText, sessionRegister, fedSession, written, FedBy}
+use Rattle.modes.specs.Sessions.{Arrays, feedNumberWithin, feedNumber, fedText, sessionText, sessionRegister, fedSession, written, FedBy}
 use Rattle.modes.proofs.SessionLaws.{text-length, ciphers}
 use Rattle.modes.proofs.FeedLaws.{accepted-count, accepted-whole, accepted-ready, accepted-session, accepted-output, accepted-named}
 use Rattle.modes.proofs.WorkLaws.{drop-take, put-next}
@@ -30,7 +30,7 @@ use Rattle.stealing.proofs.NumberLaws.{frontBits, endBits, front-number
 
 module _ {s : Session} {input : List ℕ} {count : ℕ} {out : List ℕ} (b : Begins s input count out) (arrays : Arrays s) where
   pub front-accepted : feedNumber s (length input) (frontBits count) (length out) 0 ≡ 0
-  unfolding feedNumber
+  unfolding feedNumberWithin
   front-accepted = rw (b .mode, b .unit, b .counter, b .not-closed, b .no-units) (front-number (s .rounds) (length input) count (length out) (b .rounds-good) (b .there) (b .small) (b .room))
 
   abbrev x : List Bool

@@ -86,13 +86,13 @@ front-room : (count size : ℕ) → bytesFor count ≤ size → roomOk size 0 (b
 unfolding roomOk bytesFor
 front-room count size room = rw (le-leb 0 size (omega arith), le-leb ((frontBits count + 7) / 8) (size - 0) (omega arith))
 
-front-units : (count : ℕ) → count ≤ maxBits → unitsOk 0 (unitsIn 128 (frontBits count)) ≡ true
+front-units : (count : ℕ) → count ≤ maxBits → unitsOk maxUnits 0 (unitsIn 128 (frontBits count)) ≡ true
 unfolding unitsOk unitsIn
 front-units count small = le-leb (0 + (frontBits count + (128 - 1)) / 128) maxUnits (omega arith)
 
 -- The feed of a message's front is asked for nothing that the message lacks.
 pub front-number : (rounds bytes count size : ℕ) → roundsOk rounds ≡ true → count ≤ 8 * bytes → count ≤ maxBits → bytesFor count ≤ size
-    → ask (feedQuestions Cbc rounds 128 128 false 0 bytes (frontBits count) size 0) ≡ 0
+    → ask (feedQuestions maxUnits Cbc rounds 128 128 false 0 bytes (frontBits count) size 0) ≡ 0
 unfolding feedQuestions ask sessionOk unitLengthOk counterLengthOk bitsOk wholeUnits
 front-number rounds bytes count size good there small room =
     rw (

@@ -1,4 +1,4 @@
--- From m = 32 on the units are fewer than 2^m, and below that it is computed. Assumes nothing.
+-- From m = 64 on the units are fewer than 2^m, and below that it is computed. Assumes nothing.
 use Prim.Native.Nat.{_+_, _^_, _≤_, _<_}
 use mathlib.Core.Path.{sym}
 use native.Mathlib.Nat.{mod-eq-of-lt, one-mul}

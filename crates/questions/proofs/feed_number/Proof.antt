@@ -7,7 +7,7 @@ use borrow.Author.Tests.{not-true, not-false}
 use Rattle.bits.specs.Texts.{bytesFor}
 use Rattle.rules.specs.Lengths.{wholeUnits}
 use Rattle.rules.specs.Rules.{unitsIn}
-use Rattle.questions.specs.Questions.{ask, sessionOk, bitsOk, roomOk, unitsOk, countersOk, maxBits, feedQuestions}
+use Rattle.questions.specs.Questions.{ask, sessionOk, bitsOk, roomOk, unitsOk, countersOk, maxBits, maxUnits, feedQuestions}
 use borrow.Author.Needs.{needs}
 use Rattle.questions.proofs.feed_number.Statement.{statement}
 use Rattle.questions.proofs.feed_number.Tie as tie
@@ -58,10 +58,10 @@ room c = c .room-ok .ensures ∙ ap (roomOk _ _) (c .before .bytes-for .ensures)
 yes8 : (c : tie.Else5) → let a = entry8 c .args in roomOk (a .size) (a .place) (bytesFor (a .bits)) ≡ true
 yes8 c = sym (room (c .before)) ∙ not-false _ (c .if5 .left)
 
-counted : (c : tie.After-units-ok) → let a = entry8 (c .before .before) .args in c .units-ok .result ≡ unitsOk (a .units) (unitsIn (a .n) (a .bits))
-counted c = c .units-ok .ensures ∙ ap (unitsOk _) (c .before .units-in .ensures)
+counted : (c : tie.After-units-ok) → let a = entry8 (c .before .before) .args in c .units-ok .result ≡ unitsOk maxUnits (a .units) (unitsIn (a .n) (a .bits))
+counted c = c .units-ok .ensures ∙ ap (unitsOk maxUnits _) (c .before .units-in .ensures)
 
-yes9 : (c : tie.Else6) → let a = entry8 (past8 c) .args in unitsOk (a .units) (unitsIn (a .n) (a .bits)) ≡ true
+yes9 : (c : tie.Else6) → let a = entry8 (past8 c) .args in unitsOk maxUnits (a .units) (unitsIn (a .n) (a .bits)) ≡ true
 yes9 c = sym (counted (c .before)) ∙ not-false _ (c .if6 .left)
 
 blocks : (c : tie.After-counters-ok) → let a = entry8 (past8 (c .before)) .args in c .counters-ok .result ≡ countersOk (a .m) (a .units) (unitsIn (a .n) (a .bits))

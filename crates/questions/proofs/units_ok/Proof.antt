@@ -10,12 +10,9 @@ use Rattle.questions.proofs.units_ok.Tie as tie
 sub-result : tie.Need-sub-result
 sub-result c = search needs
 
-cast-result : tie.Need-cast-result
-cast-result c = search needs
-
 returns : tie.Need-returns
 unfolding unitsOk
 returns c = leb-same (c .args .new) (maxUnits - c .args .done) (c .args .done + c .args .new) maxUnits (λ h. omega arith) (λ h. omega arith)
 
 pub units-ok-spec : {M : Type 1} → statement M
-units-ok-spec = tie.close (tie.spec sub-result cast-result returns)
+units-ok-spec = tie.close (tie.spec sub-result returns)

@@ -10,7 +10,8 @@ use Rattle.bits.proofs.Texts.{length-bits, length-pack}
 use Rattle.bits.proofs.Owned.{arrays}
 use Rattle.rules.specs.Rules.{unitsIn}
 use Rattle.rules.proofs.Taken.{unit-bounds}
-use Rattle.modes.specs.Sessions.{Arrays, feedNumber, fedText, sessionText, sessionRegister, sessionRuns}
+use Rattle.modes.specs.Sessions.{Arrays, feedNumberWithin, fedText, sessionText, sessionRegister, sessionRuns}
+use Rattle.questions.specs.Questions.{maxUnits}
 use Rattle.questions.proofs.QuestionLaws.{FeedTaken, feed-taken}
 use Rattle.modes.proofs.AnswerLaws.{feed-refused, feed-accepted, part-written, moved}
 use Rattle.modes.proofs.SessionLaws.{Ready, text-length}
@@ -23,8 +24,8 @@ arrays-are : (s : tie.Start) → Arrays (s .args .self)
 arrays-are s = record { register = search arrays; keys = search arrays; keys-size = length-unmapped ℕ (s .args .self .keys) 240 (search needs) }
 
 -- an accepted feed's answers
-answers : (c : tie.Else1) → let a = c .before .before .before .before .args in FeedTaken (a .self .mode) (a .self .rounds) (a .self .n) (a .self .m) (a .self .closed) (a .self .units) (length (a .input .now)) (a .bits) (length (a .out .now)) (a .place)
-answers c = feed-taken _ _ _ _ _ _ _ _ _ _ (sym (c .before .feed-number .ensures) ∙ c .if1 .left)
+answers : (c : tie.Else1) → let a = c .before .before .before .before .args in FeedTaken maxUnits (a .self .mode) (a .self .rounds) (a .self .n) (a .self .m) (a .self .closed) (a .self .units) (length (a .input .now)) (a .bits) (length (a .out .now)) (a .place)
+answers c = feed-taken maxUnits _ _ _ _ _ _ _ _ _ _ (sym (c .before .feed-number .ensures) ∙ c .if1 .left)
 
 -- the text has as many bits as are fed, and so has what it becomes
 fed-length : (c : tie.Else1) → let a = c .before .before .before .before .args in length (fedText (a .input .now) (a .bits)) ≡ a .bits
@@ -46,7 +47,7 @@ feed-number-requires : tie.Need-feed-number-requires
 feed-number-requires c κs = search needs
 
 returns : tie.Need-returns
-unfolding feedNumber
+unfolding feedNumberWithin
 returns c = feed-refused _ _ _ _ _ (c .before .feed-number .ensures) (c .if1 .taken)
 
 sub-work : tie.Need-sub-work
@@ -67,7 +68,7 @@ work-requires c κs =
         unit-length = q .unit;
         whole = q .whole;
         within = omega (arith, q .there);
-        small = q .limit;
+        small = q .small;
         room = rw (part-all (s .args .place) (s .args .out .now), length-drop (s .args .place) (s .args .out .now)) (q .room);
       },
       q .rounds-good,
@@ -80,9 +81,6 @@ asked c = c .before .before .before .before .before
 units-in-requires : tie.Need-units-in-requires
 units-in-requires c κs = search needs
 
-cast-done : tie.Need-cast-done
-cast-done c = let q = answers (asked (c .before .before)) in omega (arith, q .counted, c .units-in .ensures)
-
 add-done : tie.Need-add-done
 add-done c = let q = answers (asked (c .before .before .before)) in omega (arith, q .counted, c .before .units-in .ensures)
 
@@ -93,7 +91,7 @@ same-length : tie.Need-same-length
 same-length c = search needs
 
 returns-2 : tie.Need-returns-2
-unfolding feedNumber sessionRegister sessionText sessionRuns fedText
+unfolding feedNumberWithin sessionRegister sessionText sessionRuns fedText
 returns-2 c =
     let w = c .before .before .before .before .before in
     let e = asked (c .before .before .before) in
@@ -117,7 +115,6 @@ feed-spec =
     part-work-end
     work-requires
     units-in-requires
-    cast-done
     add-done
     rem-rest
     same-length

@@ -1,0 +1,134 @@
+-- What is promised of carrying a session over.
+use Prim.Native.Nat.{ℕ, _+_, _≤_, _<_}
+use mathlib.Core.Path.{_≡_}
+use mathlib.Core.Logic.{_↔_}
+use mathlib.Core.Bool.{cond}
+use mathlib.Core.List.{List, [], _∷_, _++_}
+use lib.Dec.{eqb}
+use Rattle.bits.specs.Blocks.{Bytes}
+use Rattle.rules.specs.declared.Mode.{Mode}
+use Rattle.rules.specs.declared.Mode.the-variants.{Ctr}
+use Rattle.rules.specs.declared.Direction.{Direction}
+use Rattle.rules.specs.declared.Direction.the-variants.{Decrypt}
+use Rattle.rules.specs.Rules.{unitsIn}
+use Rattle.questions.specs.Questions.{countersOk}
+use Rattle.modes.specs.declared.session.Session.{Session}
+use Rattle.modes.specs.declared.session.Opened.{Opened}
+use Rattle.modes.specs.Sessions.{OpenedBy}
+use Rattle.modes.specs.Lists.{Call, Run}
+use Rattle.modes.specs.Promises.{TextOf, Recovered}
+use Rattle.carry.specs.declared.Session32.{Session32}
+use Rattle.carry.specs.Older.{Fits, carried, Call32, carriedFed, Run32}
+
+-- ---- each part
+
+pub record SameParts (older : Session32) (s : Session) : Type 0 where
+  pub mode : s .mode ≡ older .mode
+  pub direction : s .direction ≡ older .direction
+  pub n : s .n ≡ older .n
+  pub m : s .m ≡ older .m
+  pub rounds : s .rounds ≡ older .rounds
+  pub keys : s .keys ≡ older .keys
+  pub register : s .register ≡ older .register
+  pub units : s .units ≡ older .units
+  pub closed : s .closed ≡ older .closed
+
+-- Carrying over keeps each part, and nothing else does.
+unfoldable pub PartsKept : Type 0
+PartsKept = (older : Session32) (s : Session) → (s ≡ carried older) ↔ SameParts older s
+
+-- ---- the older release's count
+
+-- No feed of that release leads past a number of 32 bits: so its limit is no higher than that type allows.
+unfoldable pub UnitsFit : Type 0
+UnitsFit = (s t : Session32) (olds : List Call32) → Fits s → Run32 s olds t → Fits t
+
+-- ---- the same feeds
+
+pub record SameFeed (c : Call32) (d : Call) : Type 0 where
+  pub input : d .input ≡ c .input
+  pub count : d .count ≡ c .count
+  pub out : d .out ≡ c .out
+  pub place : d .place ≡ c .place
+
+-- As many, and one by one the same.
+unfoldable pub SameFeeds : List Call32 → List Call → Type 0
+SameFeeds [] [] = Unit {0}
+SameFeeds [] (d ∷ ds) = ⊥
+SameFeeds (c ∷ cs) [] = ⊥
+SameFeeds (c ∷ cs) (d ∷ ds) = SameFeed c d × SameFeeds cs ds
+
+pub record SameAnswer (c : Call32) (d : Call) : Type 0 where
+  pub number : d .result .number ≡ c .number
+  pub output : d .after ≡ c .after
+  pub session : d .result .session ≡ carried (c .session)
+  pub runs : d .result .runs ≡ c .runs
+
+-- The older session s answered 9: no question before that one says 'no', and of those behind it 15 alone may.
+pub record PastTheOlderLimit (s : Session32) (c : Call32) (d : Call) : Type 0 where
+  pub exactly : d .result .number ≡ cond (countersOk (s .m) (s .units) (unitsIn (s .n) (c .count))) 0 15
+  -- in every mode but CTR it is accepted, and with a counter from 33 bits on; with fewer than 32 it is not; with 32 it is exactly where the
+  -- feed's last unit is the last that they count
+  pub without-counter : (s .mode ≡ Ctr → ⊥) → d .result .number ≡ 0
+  pub many-bits : 33 ≤ s .m → d .result .number ≡ 0
+  pub few-bits : s .m < 32 → d .result .number ≡ 15
+  pub with-32 : s .m ≡ 32 → (d .result .number ≡ 0) ↔ (s .units + unitsIn (s .n) (c .count) ≡ 4294967296)
+
+-- From the older session s on: as long as the older answers are not 9, the answers are the same after each feed. Where one is 9 and the
+-- carried session answers 15, both stay as they were, and it goes on so.
+unfoldable pub SameWhileAllowed : Session32 → List Call32 → List Call → Type 0
+SameWhileAllowed s [] ds = Unit {0}
+SameWhileAllowed s (c ∷ cs) [] = Unit {0}
+SameWhileAllowed s (c ∷ cs) (d ∷ ds) =
+    record {
+      allowed : (c .number ≡ 9 → ⊥) → SameAnswer c d × SameWhileAllowed (c .session) cs ds;
+      past : c .number ≡ 9 → PastTheOlderLimit s c d;
+      both-refused : c .number ≡ 9 → d .result .number ≡ 15 → (d .result .session ≡ carried (c .session)) × (d .after ≡ c .after) × SameWhileAllowed (c .session) cs ds;
+    }
+
+unfoldable pub NeverPast : List Call32 → Type 0
+NeverPast [] = Unit {0}
+NeverPast (c ∷ cs) = (c .number ≡ 9 → ⊥) × NeverPast cs
+
+pub record GoesOn (s : Session32) (olds : List Call32) (t : Session32) (calls : List Call) (end : Session) : Type 0 where
+  pub each : SameWhileAllowed s olds calls
+  pub at-the-end : NeverPast olds → end ≡ carried t
+
+-- For any older session and any list of feeds.
+unfoldable pub CarriedGoesOn : Type 0
+CarriedGoesOn =
+    (s t : Session32) (end : Session) (olds : List Call32) (calls : List Call) → Fits s → Run32 s olds t → Run (carried s) calls end
+    → SameFeeds olds calls → GoesOn s olds t calls end
+
+-- ---- across the change of release
+
+-- A feed of the older release in today's form, and those of a list that were accepted.
+unfoldable pub todays : Call32 → Call
+todays c = record { input = c .input; count = c .count; out = c .out; place = c .place; result = carriedFed c; after = c .after }
+
+unfoldable pub acceptedFeeds : List Call32 → List Call
+acceptedFeeds [] = []
+acceptedFeeds (c ∷ cs) = cond (eqb (c .number) 0) (todays c ∷ acceptedFeeds cs) (acceptedFeeds cs)
+
+-- Feeds of the older release up to the change, and feeds on the carried session behind it, are one list of today's feeds. So all that is
+-- promised of lists holds across the change.
+unfoldable pub AcrossTheChange : Type 0
+AcrossTheChange =
+    (s t : Session32) (end : Session) (olds : List Call32) (calls : List Call) → Run32 s olds t → Run (carried t) calls end
+    → Run (carried s) (acceptedFeeds olds ++ calls) end
+
+-- Demands 2 and 3, for sessions opened in the older release: its opening gave what today's gives, and the change may come at any place of
+-- each list.
+unfoldable pub DemandTwoAcross : Type 0
+DemandTwoAcross =
+    (mode : Mode) (dir : Direction) (n m : ℕ) (key iv : List ℕ) (r : Opened) (s t : Session32) (end : Session) (olds : List Call32) (calls : List Call)
+    → Bytes key → Bytes iv → OpenedBy mode dir n m key iv r → r .number ≡ 0 → r .session ≡ carried s → Run32 s olds t → Run (carried t) calls end
+    → TextOf mode dir n m key iv (acceptedFeeds olds ++ calls) end
+
+unfoldable pub DemandThreeAcross : Type 0
+DemandThreeAcross =
+    (mode : Mode) (n m m′ : ℕ) (key v w : List ℕ) (r q : Opened) → Bytes key → Bytes v → Bytes w
+    → OpenedBy mode Decrypt n m key v r → r .number ≡ 0 → OpenedBy mode Decrypt n m′ key w q → q .number ≡ 0
+    → (s t : Session32) (end : Session) (olds : List Call32) (calls : List Call) → r .session ≡ carried s → Run32 s olds t → Run (carried t) calls end
+    → (s′ t′ : Session32) (end′ : Session) (olds′ : List Call32) (others : List Call) → q .session ≡ carried s′ → Run32 s′ olds′ t′ → Run (carried t′) others end′
+    → Recovered mode n m m′ key v w (acceptedFeeds olds ++ calls) (acceptedFeeds olds′ ++ others)
