@@ -1,6 +1,7 @@
 # shellcheck shell=bash
-# Sourced by test and bench: sees that a C compiler, rustc, python3 and what is named (c++, the C libraries crypto and tomcrypt)
-# are there, and installs the Debian packages of those that are missing. Exits where that fails.
+# Sourced by test and bench: sees that a C compiler, rustc, python3 and what is named (c++, the C libraries crypto and
+# tomcrypt, the published vectors) are there, and installs the Debian packages of those that are missing. Exits where
+# that fails.
 needed=("$@")
 
 links() { # LIBRARY
@@ -15,6 +16,7 @@ links() { # LIBRARY
 present() { # NAME
     case $1 in
         c++) command -v g++ >/dev/null ;;
+        vectors) dpkg -s "$(package_of "$1")" 2>/dev/null | grep '^Status: .* installed$' >/dev/null ;;
         *) links "$1" ;;
     esac
 }
@@ -24,6 +26,7 @@ package_of() { # NAME
         c++) echo g++ ;;
         crypto) echo libssl-dev ;;
         tomcrypt) echo libtomcrypt-dev ;;
+        vectors) echo python3-cryptography-vectors ;;
     esac
 }
 

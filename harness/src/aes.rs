@@ -1,7 +1,10 @@
-// Key expansion and the one-block calls, held against OpenSSL's.
-use crate::openssl::{self, Direction};
+// Key expansion and the one-block calls, and the reference's AES, compared with OpenSSL's.
+use crate::direction::Direction;
+use crate::fips197::Schedule;
+use crate::hex::{from_hex, hex};
+use crate::openssl::{self, Key};
 use crate::rattle;
-use crate::report::{equal, from_hex, hex, Outcome, Report};
+use crate::report::{equal, Outcome, Report};
 use crate::rng::Rng;
 
 const KEY_LENGTHS: [usize; 3] = [16, 24, 32];
@@ -32,7 +35,15 @@ pub fn run(report: &mut Report) {
             &format!("{name} goes along a chain of blocks and back"),
             |rng| chains(rng, length),
         );
+        report.test(
+            &format!("the reference's {name} is OpenSSL's under {CASES} random keys"),
+            |rng| reference_keys(rng, length),
+        );
     }
+    report.test(
+        &format!("the reference's AES is OpenSSL's under {CASES} round keys that no key gives"),
+        round_keys,
+    );
     for length in REFUSED_LENGTHS {
         report.test(
             &format!("a key of {length} bytes gives number 1 and zeros"),
@@ -109,6 +120,48 @@ fn chains(rng: &mut Rng, length: usize) -> Outcome {
             let (number, own) = rattle::chain(&key, decrypting, &from, count);
             equal(input, (0, hex(&to)), (number, hex(&own)))?;
         }
+    }
+    Ok(())
+}
+
+fn reference_keys(rng: &mut Rng, length: usize) -> Outcome {
+    for _ in 0..CASES {
+        let (key, block) = (rng.bytes(length), rng.block());
+        let input = || format!("key {} block {}", hex(&key), hex(&block));
+        let theirs = Key::new(&key);
+        let ours = Schedule::expand(&key).ok_or_else(input)?;
+        equal(
+            input,
+            (theirs.rounds, hex(&theirs.keys)),
+            (ours.rounds, hex(&ours.keys)),
+        )?;
+        equal(
+            input,
+            (hex(&theirs.enc(&block)), hex(&theirs.dec(&block))),
+            (hex(&ours.enc(&block)), hex(&ours.dec(&block))),
+        )?;
+    }
+    Ok(())
+}
+
+// OpenSSL takes any round keys to encrypt. Dec leads back; under other rounds both give zero bytes.
+fn round_keys(rng: &mut Rng) -> Outcome {
+    for _ in 0..CASES {
+        let (block, keys) = (rng.block(), rng.bytes(240).try_into().expect("240 bytes"));
+        let mut schedule = Schedule {
+            rounds: *rng.pick(&[10, 12, 14]),
+            keys,
+        };
+        let input = || format!("round keys {} block {}", hex(&keys), hex(&block));
+        let cipher = openssl::enc_under(schedule.rounds, &keys, &block);
+        equal(
+            input,
+            (hex(&cipher), hex(&block)),
+            (hex(&schedule.enc(&block)), hex(&schedule.dec(&cipher))),
+        )?;
+        schedule.rounds = *rng.pick(&[0, 1, 9, 11, 13, 15, 16, usize::MAX]);
+        let both = [schedule.enc(&block), schedule.dec(&block)];
+        equal(input, [[0; 16]; 2], both)?;
     }
     Ok(())
 }

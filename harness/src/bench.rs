@@ -2,11 +2,13 @@
 // feed, or MB/s), then the figures of Rattle, OpenSSL and libtomcrypt (`-` where there is none), parted by tabs. The script
 // bench runs this with OpenSSL's AES instructions on and off.
 #![allow(dead_code)]
+mod direction;
 mod openssl;
 mod rattle;
 mod tomcrypt;
 
-use openssl::{Cipher, Direction};
+use direction::Direction;
+use openssl::Cipher;
 use std::time::Instant;
 
 const CHAIN: usize = 2_000;

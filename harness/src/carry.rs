@@ -1,13 +1,14 @@
 // Sessions that the release before request 07 opened, carried over (request 07), through the static library: they go on as the
 // reference does within that release's 4,294,967,295 units, then on to 2^64 - 1, and no further.
+use crate::arguments::{any_direction, any_key, Feed};
 use crate::counters::any_iv;
-use crate::openssl::Direction;
+use crate::direction::Direction;
+use crate::hex::hex;
 use crate::rattle::{self, Session32};
 use crate::reference::{self, counts, Mode, MAX_BITS, MAX_UNITS, MODES, OLDER_MAX_UNITS};
-use crate::replay::{any_direction, any_key};
-use crate::report::{equal, hex, Outcome, Report};
+use crate::report::{equal, Outcome, Report};
 use crate::rng::Rng;
-use crate::sessions::{same, Feed};
+use crate::sessions::same;
 
 const CARRIED: usize = 4000;
 
@@ -33,6 +34,10 @@ pub fn run(report: &mut Report) {
             |rng| goes_on(rng, mode),
         );
     }
+    report.test(
+        &format!("carry: feeds about {OLDER_MAX_UNITS} units and 2^m, as before or past them"),
+        at_the_limit,
+    );
     for mode in MODES {
         report.test(
             &format!(
@@ -150,17 +155,23 @@ fn any_m(rng: &mut Rng, mode: Mode) -> usize {
     }
 }
 
-// A session in the midst of its message, as the reference has it. A few are closed, or are what no opening gives.
-fn any_session(rng: &mut Rng, mode: Mode, n: usize) -> reference::Session {
-    let m = any_m(rng, mode);
+// A session just opened, as the reference has it.
+fn any_opened(rng: &mut Rng, mode: Mode, n: usize, m: usize) -> reference::Session {
     let (direction, key) = (any_direction(rng), any_key(rng));
     let iv = if mode == Mode::Ecb {
         vec![]
     } else {
         any_iv(rng, m).to_vec()
     };
-    let (number, mut session) = reference::Session::open_counter(mode, direction, n, m, &key, &iv);
+    let (number, session) = reference::Session::open_counter(mode, direction, n, m, &key, &iv);
     assert!(number == 0);
+    session
+}
+
+// A session in the midst of its message. A few are closed, or are what no opening gives.
+fn any_session(rng: &mut Rng, mode: Mode, n: usize) -> reference::Session {
+    let m = any_m(rng, mode);
+    let mut session = any_opened(rng, mode, n, m);
     let near = match rng.below(3) {
         0 => counts(m).min(OLDER_MAX_UNITS as u128) as u64,
         _ => OLDER_MAX_UNITS,
@@ -186,8 +197,8 @@ fn older_of(session: &reference::Session) -> Session32 {
         decrypting: session.direction == Direction::Decrypt,
         n: session.n,
         m: session.m,
-        rounds: session.rounds(),
-        keys: session.key.as_ref().map_or([0; 240], |key| key.keys),
+        rounds: session.schedule.rounds,
+        keys: session.schedule.keys,
         register: session.register,
         units: u32::try_from(session.units).expect("units of 32 bits"),
         closed: session.closed,
@@ -221,13 +232,13 @@ fn feed_both(
 }
 
 // What has to happen: answers within the older limit, where it is passed, and past it. 15 is of counters alone.
-const COMMON: [&str; 4] = ["0", "refused", "crossed", "0 past it"];
+const COMMON: [&str; 4] = ["0", "refused", CROSSED, "0 past it"];
 const OF_COUNTERS: [&str; 7] = [
     "0",
     "refused",
     "15",
-    "crossed",
-    "15 where it was 9",
+    CROSSED,
+    NOT_CROSSED,
     "0 past it",
     "15 past it",
 ];
@@ -251,8 +262,49 @@ fn goes_on(rng: &mut Rng, mode: Mode) -> Outcome {
     tally.all_happened()
 }
 
-// One session. As long as the older release does not answer 9, today's answers as it did. Where it does, today's works the feed
-// if the counter has the values for it, else answers 15; then both are today's.
+// What happened where the older release answers 9.
+const CROSSED: &str = "crossed";
+const NOT_CROSSED: &str = "15 where it was 9";
+
+// One feed of both, from a session that the older release could have, and what happened. As long as that release does not answer
+// 9, today's answers as it did. Where it does, and leaves all as it was, today's works the feed if the counter has the values for
+// it, else answers 15.
+fn feed_as_older(
+    named: &str,
+    feed: &Feed,
+    theirs: &mut reference::Session,
+    ours: &mut rattle::Session,
+) -> Result<&'static str, String> {
+    let (mut older, mut out) = (theirs.clone(), feed.out.clone());
+    let answer = older.feed_within(
+        OLDER_MAX_UNITS,
+        &feed.input,
+        feed.bits,
+        &mut out,
+        feed.place,
+    );
+    if answer.0 != 9 {
+        let number = feed_both(named, feed, OLDER_MAX_UNITS, theirs, ours)?;
+        return Ok(match number {
+            0 => "0",
+            15 => "15",
+            _ => "refused",
+        });
+    }
+    let refused = || format!("{named}: refused by the older release");
+    same(refused, (answer, &older, &out), ((9, 0), ours, &feed.out))?;
+    let units = theirs.units_with(feed.bits);
+    let number = feed_both(named, feed, MAX_UNITS, theirs, ours)?;
+    let (expected, happened) = match units <= counts(theirs.m) {
+        true => ((0, units), CROSSED),
+        false => ((15, older.units as u128), NOT_CROSSED),
+    };
+    let past = || format!("{named}: past the older limit");
+    equal(past, expected, (number, ours.units as u128))?;
+    Ok(happened)
+}
+
+// One session, up to the older limit as that release would have it, and past it.
 fn carried(rng: &mut Rng, mode: Mode, n: usize, tally: &mut Tally) -> Outcome {
     let mut theirs = any_session(rng, mode, n);
     let mut ours = older_of(&theirs).carried();
@@ -266,36 +318,10 @@ fn carried(rng: &mut Rng, mode: Mode, n: usize, tally: &mut Tally) -> Outcome {
     same(|| named.clone(), ((), &theirs, &[]), ((), &ours, &[]))?;
     for _ in 0..FEEDS {
         let feed = Feed::any(rng, n);
-        // what the older release would make of it
-        let mut older = theirs.clone();
-        let mut out = feed.out.clone();
-        let answer = older.feed_within(
-            OLDER_MAX_UNITS,
-            &feed.input,
-            feed.bits,
-            &mut out,
-            feed.place,
-        );
-        if answer.0 != 9 {
-            match feed_both(&named, &feed, OLDER_MAX_UNITS, &mut theirs, &mut ours)? {
-                0 => tally.count("0"),
-                15 => tally.count("15"),
-                _ => tally.count("refused"),
-            }
+        let happened = feed_as_older(&named, &feed, &mut theirs, &mut ours)?;
+        tally.count(happened);
+        if ![CROSSED, NOT_CROSSED].contains(&happened) {
             continue;
-        }
-        let units = theirs.units_with(feed.bits);
-        let number = feed_both(&named, &feed, MAX_UNITS, &mut theirs, &mut ours)?;
-        if units <= counts(m) {
-            tally.count("crossed");
-            equal(
-                || format!("{named}: past the older limit"),
-                (0, units, units > OLDER_MAX_UNITS as u128),
-                (number, ours.units as u128, true),
-            )?;
-        } else {
-            tally.count("15 where it was 9");
-            equal(|| format!("{named}: past 2^m"), 15, number)?;
         }
         for _ in 0..MORE {
             let feed = Feed::any(rng, n);
@@ -306,6 +332,56 @@ fn carried(rng: &mut Rng, mode: Mode, n: usize, tally: &mut Tally) -> Outcome {
             }
         }
         break;
+    }
+    Ok(())
+}
+
+// Modes, n and m for the edges; 2^m is below, about and above the older limit.
+const EDGES: [(Mode, usize, usize); 12] = [
+    (Mode::Ecb, 128, 128),
+    (Mode::Cbc, 128, 128),
+    (Mode::Cfb, 1, 128),
+    (Mode::Cfb, 8, 128),
+    (Mode::Ofb, 128, 128),
+    (Mode::Ctr, 128, 5),
+    (Mode::Ctr, 128, 31),
+    (Mode::Ctr, 128, 32),
+    (Mode::Ctr, 128, 33),
+    (Mode::Ctr, 128, 63),
+    (Mode::Ctr, 128, 64),
+    (Mode::Ctr, 128, 128),
+];
+
+fn at_the_limit(rng: &mut Rng) -> Outcome {
+    let mut tally = Tally::of(&["0", "refused", "15", CROSSED, NOT_CROSSED]);
+    for edge in EDGES {
+        for end in [5, 1 << 31, OLDER_MAX_UNITS] {
+            for units in end - 2..=end {
+                few_units_more(rng, edge, units, &mut tally)?;
+            }
+        }
+    }
+    tally.all_happened()
+}
+
+// Feeds of up to three units, each of a session that is open, of one that is closed and of a refused one.
+fn few_units_more(
+    rng: &mut Rng,
+    (mode, n, m): (Mode, usize, usize),
+    units: u64,
+    tally: &mut Tally,
+) -> Outcome {
+    for bits in [0, 1, n, n + 1, 2 * n, 3 * n] {
+        let open = any_opened(rng, mode, n, m);
+        let mut closed = open.clone();
+        closed.closed = true;
+        for mut theirs in [open, closed, reference::Session::refused()] {
+            theirs.units = units;
+            let mut ours = older_of(&theirs).carried();
+            let named = format!("{} {n} {m}, closed: {}", mode.name(), theirs.closed);
+            let feed = of_bits(rng, bits);
+            tally.count(feed_as_older(&named, &feed, &mut theirs, &mut ours)?);
+        }
     }
     Ok(())
 }

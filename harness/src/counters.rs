@@ -1,11 +1,14 @@
 // Counters of m bits in CTR (request 05), through the static library: against libtomcrypt where m is whole bytes, for every m
 // against counter blocks that are computed as numbers and encrypted by OpenSSL, and against the reference for all arguments.
-use crate::openssl::{Direction, Key};
+use crate::arguments::Feed;
+use crate::direction::Direction;
+use crate::hex::hex;
+use crate::openssl::Key;
 use crate::rattle::Session;
 use crate::reference::{self, counting, counts, parts, Mode, MAX_BITS, MAX_UNITS, MODES};
-use crate::report::{equal, hex, Outcome, Report};
+use crate::report::{equal, Outcome, Report};
 use crate::rng::Rng;
-use crate::sessions::{same, Feed, DIRECTIONS, KEY_LENGTHS};
+use crate::sessions::{same, DIRECTIONS, KEY_LENGTHS};
 use crate::tomcrypt;
 use std::collections::HashSet;
 

@@ -1,9 +1,18 @@
 // What other programs see of the proved code, held against a second implementation. The tests go by subject, a file each;
 // its `run` hands its tests to the report.
 mod aes;
+mod answers;
+mod arguments;
 mod carry;
 mod cost;
 mod counters;
+mod direction;
+mod fips197;
+mod forms;
+mod hex;
+mod largest;
+mod list_file;
+mod lists;
 mod modeline;
 mod openssl;
 mod place;
@@ -14,6 +23,7 @@ mod replay;
 mod report;
 mod rng;
 mod scenario;
+mod script;
 mod sessions;
 mod stack;
 mod stealing;
@@ -29,10 +39,13 @@ fn main() {
     scenario::run(&mut report);
     stack::run(&mut report);
     replay::run(&mut report);
+    forms::run(&mut report);
+    largest::run(&mut report);
     stealing::run(&mut report);
     place::run(&mut report);
     modeline::run(&mut report);
     unpad::run(&mut report);
+    lists::run(&mut report);
     if !report.end() {
         std::process::exit(1);
     }

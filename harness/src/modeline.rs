@@ -1,8 +1,9 @@
 // The text program as a process: published and random texts, and what is not of its form.
-use crate::openssl::Direction;
+use crate::direction::Direction;
+use crate::hex::{self, hex};
 use crate::process::{self, Held};
 use crate::reference::{Mode, Session, MODES};
-use crate::report::{equal, hex, Outcome, Report};
+use crate::report::{equal, Outcome, Report};
 use crate::rng::Rng;
 use std::process::Command;
 use std::thread::sleep;
@@ -92,10 +93,7 @@ fn first(line: &[u8]) -> Option<First> {
 }
 
 fn digits(line: &[u8], most: usize) -> Option<Vec<u8>> {
-    let good = line.len() % 2 == 0
-        && line.len() <= most
-        && line.iter().all(|b| b"0123456789abcdef".contains(b));
-    good.then(|| crate::report::from_hex(std::str::from_utf8(line).unwrap()))
+    (line.len() <= most).then(|| hex::bytes(line)).flatten()
 }
 
 fn parsed(input: &[u8]) -> Option<Parsed> {

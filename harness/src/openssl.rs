@@ -1,4 +1,5 @@
 // OpenSSL's libcrypto, the second implementation: the few functions of evp.h, params.h and aes.h that are needed, declared by hand.
+use crate::direction::Direction;
 use std::ffi::CString;
 use std::os::raw::{c_char, c_int, c_uchar, c_uint, c_void};
 use std::ptr;
@@ -85,12 +86,6 @@ extern "C" {
 struct Schedule {
     keys: [u8; 240],
     rounds: c_int,
-}
-
-#[derive(Clone, Copy, PartialEq)]
-pub enum Direction {
-    Encrypt,
-    Decrypt,
 }
 
 // A cipher under a key in one of OpenSSL's modes, with no padding.
@@ -195,6 +190,17 @@ pub fn expand(key: &[u8]) -> (usize, [u8; 240]) {
     let done = unsafe { AES_set_encrypt_key(key.as_ptr(), 8 * key.len() as c_int, &mut schedule) };
     assert!(done == 0);
     (schedule.rounds as usize, schedule.keys)
+}
+
+// Enc under so many rounds and these round keys.
+pub fn enc_under(rounds: usize, keys: &[u8; 240], block: &[u8; 16]) -> [u8; 16] {
+    let schedule = Schedule {
+        keys: *keys,
+        rounds: rounds as c_int,
+    };
+    let mut out = [0; 16];
+    unsafe { AES_encrypt(block.as_ptr(), out.as_mut_ptr(), &schedule) }
+    out
 }
 
 // Enc and Dec under a key.

@@ -1,11 +1,12 @@
 // From a counter block back to its place (request 06), through the program replay: blocks that were counted up to, the registers
 // of sessions, and all arguments against the reference.
+use crate::arguments::{any_direction, any_key, any_m, Feed};
 use crate::counters::{any_iv, counter_block, NO_COUNTER};
-use crate::reference::{self, counting, incremented, Mode};
-use crate::replay::{any_direction, any_key, any_m, Script};
-use crate::report::{equal, hex, Outcome, Report};
+use crate::hex::hex;
+use crate::reference::{counting, incremented, Mode};
+use crate::report::{equal, Outcome, Report};
 use crate::rng::Rng;
-use crate::sessions::Feed;
+use crate::script::Script;
 
 // For each m: the IVs, and for each of them the places counted to, all of them up to m = 8, and those further on.
 const IVS: usize = 5;
@@ -32,12 +33,14 @@ pub fn run(report: &mut Report) {
 
 type Block = [u8; 16];
 
-// A line, and the number and the place that are expected.
-fn ask(script: &mut Script, m: usize, iv: Block, block: Block, expected: (u8, Block)) {
-    script.line(
-        format!("place {m} {} {}", hex(&iv), hex(&block)),
-        format!("{} {}", expected.0, hex(&expected.1)),
-    );
+fn place_line(m: usize, iv: Block, block: Block) -> String {
+    format!("place {m} {} {}", hex(&iv), hex(&block))
+}
+
+// A line whose number and place are known without the reference.
+fn known(script: &mut Script, m: usize, iv: Block, block: Block, answer: (u8, Block)) -> Outcome {
+    let answer = format!("{} {}", answer.0, hex(&answer.1));
+    script.known(place_line(m, iv, block), &answer)
 }
 
 // Runs the lines, and counts those that are answered 0, 14 and 16.
@@ -74,7 +77,7 @@ fn counted(rng: &mut Rng) -> Outcome {
         for iv in ivs(rng, m) {
             let mut block = iv;
             for k in 0..=last.min(COUNTED - 1) {
-                ask(&mut script, m, iv, block, (0, k.to_be_bytes()));
+                known(&mut script, m, iv, block, (0, k.to_be_bytes()))?;
                 block = incremented(block, m);
             }
             for i in 0..FURTHER {
@@ -86,7 +89,7 @@ fn counted(rng: &mut Rng) -> Outcome {
                     _ => any_number(rng) >> rng.below(128) & last,
                 };
                 let block = counter_block(&iv, m, k);
-                ask(&mut script, m, iv, block, (0, k.to_be_bytes()));
+                known(&mut script, m, iv, block, (0, k.to_be_bytes()))?;
             }
         }
     }
@@ -107,7 +110,7 @@ fn led_back(rng: &mut Rng) -> Outcome {
                 let (above, below) = (first.wrapping_add(d), first.wrapping_sub(d));
                 for number in [above, below, any_number(rng)] {
                     let block = under(iv, number, m);
-                    ask(&mut script, m, iv, block, reference::place(m, iv, block));
+                    script.line(place_line(m, iv, block));
                     asked.push((m, iv, block));
                 }
             }
@@ -140,11 +143,11 @@ fn one_bit(rng: &mut Rng) -> Outcome {
             if bit < m {
                 let behind = counting(m) - one + 1;
                 let k = if first & one == 0 { one } else { behind };
-                ask(&mut script, m, iv, block, (0, k.to_be_bytes()));
+                known(&mut script, m, iv, block, (0, k.to_be_bytes()))?;
             } else {
                 let other = under(block, any_number(rng), m);
-                ask(&mut script, m, iv, block, (16, [0; 16]));
-                ask(&mut script, m, iv, other, (16, [0; 16]));
+                known(&mut script, m, iv, block, (16, [0; 16]))?;
+                known(&mut script, m, iv, other, (16, [0; 16]))?;
             }
         }
     }
@@ -158,7 +161,7 @@ fn no_counter(rng: &mut Rng) -> Outcome {
         let first = u128::from_be_bytes(iv);
         let one_bit = (0..128).map(|bit| first ^ 1 << bit);
         for block in one_bit.chain([first, !first, any_number(rng)]) {
-            ask(&mut script, m, iv, block.to_be_bytes(), (14, [0; 16]));
+            known(&mut script, m, iv, block.to_be_bytes(), (14, [0; 16]))?;
         }
     }
     answered(&script, [0, NO_COUNTER.len() * 131, 0])
@@ -182,7 +185,7 @@ fn calls(rng: &mut Rng) -> Outcome {
             2 => under(iv, any, (counts + 1).min(128)),
             _ => under(iv, any, counts),
         };
-        ask(&mut script, m, iv, block, reference::place(m, iv, block));
+        script.line(place_line(m, iv, block));
     }
     let numbers = tally(&script)?;
     let many = numbers.iter().all(|&count| count > CALLS / 20);
@@ -200,7 +203,7 @@ fn registers(rng: &mut Rng) -> Outcome {
         script.open_counter(Mode::Ctr, direction, 128, m, &key, &iv);
         for _ in 0..3 + rng.below(12) {
             let block = under(iv, any_number(rng), m);
-            ask(&mut script, m, iv, block, reference::place(m, iv, block));
+            script.line(place_line(m, iv, block));
             fed.push((script.count(), m, iv));
             script.feed(&Feed::any(rng, 128));
         }
@@ -215,10 +218,10 @@ fn registers(rng: &mut Rng) -> Outcome {
         moved += (units > 0) as usize;
         // after 2^m units the register is the IV again
         let place = units & counting(m);
-        places.line(
+        places.known(
             format!("place {m} {} {}", hex(&iv), words[2]),
-            format!("0 {}", hex(&place.to_be_bytes())),
-        );
+            &format!("0 {}", hex(&place.to_be_bytes())),
+        )?;
     }
     let named = || format!("{refused} feeds refused, {moved} with units done");
     equal(named, true, refused > SESSIONS && moved > SESSIONS)?;

@@ -32,6 +32,18 @@ pub fn run(path: &str, input: &[u8]) -> Result<Vec<u8>, String> {
     }
 }
 
+// The lines that the program writes, without their line feeds; the last one has its line feed too.
+pub fn lines(path: &str, input: &[u8]) -> Result<Vec<String>, String> {
+    let output = String::from_utf8(run(path, input)?);
+    let output = output.map_err(|_| format!("{path}: no text came"))?;
+    if output.is_empty() {
+        return Ok(vec![]);
+    }
+    let whole = output.strip_suffix('\n');
+    let whole = whole.ok_or_else(|| format!("{path}: the last line has no end"))?;
+    Ok(whole.split('\n').map(str::to_string).collect())
+}
+
 // A program that is written to piece by piece, and whose standard input stays open until the end.
 pub struct Held {
     child: Child,

@@ -1,6 +1,8 @@
-// Document 01, and the requests that changed it, once more, over OpenSSL's block functions: written from its text and not from the proved code. A text is a
-// vector of bits, and a unit is worked as the rules say it, with no thought of speed.
-use crate::openssl::{Direction, Key};
+// Document 01, and the requests that changed it, once more: written from its text and not from the proved code, over the AES of
+// fips197.rs. A text is a vector of bits, and a unit is worked as the rules say it, with no thought of speed. What no document
+// publishes is compared with this, and the answers of the lists come from it.
+use crate::direction::Direction;
+use crate::fips197::Schedule;
 
 // The largest feed in bits, and the most units of a session (questions 6 and 9); then the most units before request 07.
 pub const MAX_BITS: usize = 524_288;
@@ -46,9 +48,30 @@ impl Mode {
         iv.len() == if self == Mode::Ecb { 0 } else { 16 }
     }
 
-    fn wants_whole_units(self) -> bool {
-        matches!(self, Mode::Ecb | Mode::Cbc | Mode::Cfb)
+    // Question 7 of a feed.
+    fn takes_bits(self, n: usize, count: usize) -> bool {
+        matches!(self, Mode::Ofb | Mode::Ctr) || count % n == 0
     }
+}
+
+// The number of the first question that is answered 'no'; 0 where all are answered 'yes'.
+fn first_no(questions: &[(u8, bool)]) -> u8 {
+    let no = questions.iter().find(|(_, yes)| !yes);
+    no.map_or(0, |&(number, _)| number)
+}
+
+// Question 6, where a text has at most so many bits.
+fn bits_there(input: &[u8], count: usize, most: usize) -> bool {
+    count <= most && count <= 8 * input.len()
+}
+
+// Question 8, of so many bytes that would be written.
+fn room_for(bytes: usize, size: usize, place: usize) -> bool {
+    place <= size && bytes <= size - place
+}
+
+fn write(out: &mut [u8], place: usize, bytes: &[u8]) {
+    out[place..place + bytes.len()].copy_from_slice(bytes);
 }
 
 // The bits that count, in a block as a number: 2^m - 1.
@@ -116,12 +139,12 @@ pub struct Session {
     pub direction: Direction,
     pub n: usize,
     pub m: usize,
-    pub key: Option<Key>,
+    pub schedule: Schedule,
     pub register: [u8; 16],
     pub units: u64,
     pub closed: bool,
-    // how often OpenSSL's block functions were run
-    runs: usize,
+    // how often the block functions were run
+    pub runs: usize,
 }
 
 impl Session {
@@ -131,7 +154,7 @@ impl Session {
             direction: Direction::Encrypt,
             n: 0,
             m: 0,
-            key: None,
+            schedule: Schedule::none(),
             register: [0; 16],
             units: 0,
             closed: true,
@@ -157,17 +180,13 @@ impl Session {
         key: &[u8],
         iv: &[u8],
     ) -> (u8, Session) {
-        let number = if ![16, 24, 32].contains(&key.len()) {
-            1
-        } else if !mode.takes_iv(iv) {
-            2
-        } else if !mode.takes(n) {
-            3
-        } else if !mode.takes_counter(m) {
-            14
-        } else {
-            0
-        };
+        let (key_number, schedule) = expand(key);
+        let number = first_no(&[
+            (1, key_number == 0),
+            (2, mode.takes_iv(iv)),
+            (3, mode.takes(n)),
+            (14, mode.takes_counter(m)),
+        ]);
         if number != 0 {
             return (number, Session::refused());
         }
@@ -176,7 +195,7 @@ impl Session {
             direction,
             n,
             m,
-            key: Some(Key::new(key)),
+            schedule,
             register: iv.try_into().unwrap_or([0; 16]),
             units: 0,
             closed: false,
@@ -185,8 +204,9 @@ impl Session {
         (0, session)
     }
 
-    pub fn rounds(&self) -> usize {
-        self.key.as_ref().map_or(0, |key| key.rounds)
+    // Question 4, of any session, whoever made it.
+    fn fields_ok(&self) -> bool {
+        self.schedule.rounds_ok() && self.mode.takes(self.n) && self.mode.takes_counter(self.m)
     }
 
     // The units worked, and those of a feed of so many bits.
@@ -195,32 +215,18 @@ impl Session {
     }
 
     fn feed_number(&self, limit: u64, input: &[u8], count: usize, size: usize, place: usize) -> u8 {
-        let opened = [10, 12, 14].contains(&self.rounds())
-            && self.mode.takes(self.n)
-            && self.mode.takes_counter(self.m);
-        if !opened {
+        if !self.fields_ok() {
             return 4;
         }
-        if self.closed {
-            return 5;
-        }
-        if count > 8 * input.len() || count > MAX_BITS {
-            return 6;
-        }
-        if self.mode.wants_whole_units() && count % self.n != 0 {
-            return 7;
-        }
-        if place > size || parts(count, 8) > size - place {
-            return 8;
-        }
         let units = self.units_with(count);
-        if units > limit as u128 {
-            return 9;
-        }
-        if units > counts(self.m) {
-            return 15;
-        }
-        0
+        first_no(&[
+            (5, !self.closed),
+            (6, bits_there(input, count, MAX_BITS)),
+            (7, self.mode.takes_bits(self.n, count)),
+            (8, room_for(parts(count, 8), size, place)),
+            (9, units <= limit as u128),
+            (15, units <= counts(self.m)),
+        ])
     }
 
     // The number and the runs.
@@ -251,20 +257,19 @@ impl Session {
                 .chunks(self.n)
                 .flat_map(|unit| self.unit(unit))
                 .collect();
-            let written = bytes(&worked);
-            out[place..place + written.len()].copy_from_slice(&written);
+            write(out, place, &bytes(&worked));
         }
         (number, self.runs - before)
     }
 
     fn enc(&mut self, block: &[u8; 16]) -> [u8; 16] {
         self.runs += 1;
-        self.key.as_ref().expect("an open session").enc(block)
+        self.schedule.enc(block)
     }
 
     fn dec(&mut self, block: &[u8; 16]) -> [u8; 16] {
         self.runs += 1;
-        self.key.as_ref().expect("an open session").dec(block)
+        self.schedule.dec(block)
     }
 
     // One unit by its mode's rule.
@@ -304,19 +309,38 @@ impl Session {
         }
     }
 
+    // The first 16 x (rounds + 1) bytes of the round keys, and all 240 where that is more.
+    fn keys_used(&self) -> &[u8] {
+        &self.schedule.keys[..16 * (self.schedule.rounds.min(14) + 1)]
+    }
+
     pub fn alike(&self, other: &Session) -> bool {
-        let keys = |s: &Session| {
-            let all = s.key.as_ref().map_or([0; 240], |key| key.keys);
-            all[..(16 * (s.rounds() + 1)).min(240)].to_vec()
-        };
         self.mode == other.mode
             && self.direction == other.direction
             && self.n == other.n
             && self.m == other.m
-            && self.rounds() == other.rounds()
-            && keys(self) == keys(other)
+            && self.schedule.rounds == other.schedule.rounds
+            && self.keys_used() == other.keys_used()
             && self.register == other.register
     }
+}
+
+// The three calls of aes: the number, then the rounds and round keys, or a block. A refused call gives zeros.
+pub fn expand(key: &[u8]) -> (u8, Schedule) {
+    match Schedule::expand(key) {
+        Some(schedule) => (0, schedule),
+        None => (1, Schedule::none()),
+    }
+}
+
+pub fn encrypt(key: &[u8], block: &[u8; 16]) -> (u8, [u8; 16]) {
+    let (number, schedule) = expand(key);
+    (number, schedule.enc(block))
+}
+
+pub fn decrypt(key: &[u8], block: &[u8; 16]) -> (u8, [u8; 16]) {
+    let (number, schedule) = expand(key);
+    (number, schedule.dec(block))
 }
 
 // What a feed of so many bits will cost: the number, the bytes and the runs.
@@ -324,41 +348,38 @@ pub fn forecast(mode: Mode, n: usize, count: usize) -> (u8, usize, usize) {
     if !mode.takes(n) {
         return (3, 0, 0);
     }
-    if count > MAX_BITS {
-        return (6, 0, 0);
+    match first_no(&[(6, count <= MAX_BITS), (7, mode.takes_bits(n, count))]) {
+        0 => (0, parts(count, 8), parts(count, n)),
+        number => (number, 0, 0),
     }
-    if mode.wants_whole_units() && count % n != 0 {
-        return (7, 0, 0);
-    }
-    (0, parts(count, 8), parts(count, n))
 }
 
 // The number and the padded length.
 pub fn pad(input: &[u8], count: usize, out: &mut [u8], place: usize) -> (u8, usize) {
-    if count > 8 * input.len() || count > MAX_BITS - 1 {
-        return (6, 0);
+    let blocks = count / 128 + 1;
+    let number = first_no(&[
+        (6, bits_there(input, count, MAX_BITS - 1)),
+        (8, room_for(16 * blocks, out.len(), place)),
+    ]);
+    if number != 0 {
+        return (number, 0);
     }
     let mut text = bits(&input[..parts(count, 8)]);
     text.truncate(count);
     text.push(true);
-    while text.len() % 128 != 0 {
-        text.push(false);
-    }
-    let padded = bytes(&text);
-    if place > out.len() || padded.len() > out.len() - place {
-        return (8, 0);
-    }
-    out[place..place + padded.len()].copy_from_slice(&padded);
+    text.resize(128 * blocks, false);
+    write(out, place, &bytes(&text));
     (0, text.len())
 }
 
 // The number and the length before the padding.
 pub fn unpad(input: &[u8], count: usize) -> (u8, usize) {
-    if count > 8 * input.len() || count > MAX_BITS {
-        return (6, 0);
-    }
-    if count == 0 || count % 128 != 0 {
-        return (7, 0);
+    let number = first_no(&[
+        (6, bits_there(input, count, MAX_BITS)),
+        (7, count > 0 && count % 128 == 0),
+    ]);
+    if number != 0 {
+        return (number, 0);
     }
     // request 02: the last 128 bits alone; where they are all 0, as where the first is their only 1
     let first = count - 128;
@@ -366,12 +387,13 @@ pub fn unpad(input: &[u8], count: usize) -> (u8, usize) {
     (0, first + last_one.unwrap_or(0))
 }
 
+// Question 11.
 fn block_there(text: &[u8], j: usize) -> bool {
     text.len() % 16 == 0 && j < text.len() / 16
 }
 
 pub fn neighbour<'a>(iv: &'a [u8], text: &'a [u8], j: usize) -> &'a [u8] {
-    if iv.len() != 16 || !block_there(text, j) {
+    if !Mode::Cbc.takes_iv(iv) || !block_there(text, j) {
         &[]
     } else if j == 0 {
         iv
@@ -380,6 +402,7 @@ pub fn neighbour<'a>(iv: &'a [u8], text: &'a [u8], j: usize) -> &'a [u8] {
     }
 }
 
+// One block of a CBC ciphertext. The answer is the number.
 pub fn single_block(
     key: &[u8],
     iv: &[u8],
@@ -388,25 +411,19 @@ pub fn single_block(
     out: &mut [u8],
     place: usize,
 ) -> u8 {
-    if ![16, 24, 32].contains(&key.len()) {
-        return 1;
+    let (key_number, schedule) = expand(key);
+    let number = first_no(&[
+        (1, key_number == 0),
+        (2, Mode::Cbc.takes_iv(iv)),
+        (11, block_there(text, j)),
+        (8, room_for(16, out.len(), place)),
+    ]);
+    if number == 0 {
+        let cipher = text[16 * j..16 * j + 16].try_into().expect("a block");
+        let plain = sum(&bits(&schedule.dec(cipher)), &bits(neighbour(iv, text, j)));
+        write(out, place, &bytes(&plain));
     }
-    if iv.len() != 16 {
-        return 2;
-    }
-    if !block_there(text, j) {
-        return 11;
-    }
-    if place > out.len() || out.len() - place < 16 {
-        return 8;
-    }
-    let cipher: [u8; 16] = text[16 * j..16 * j + 16].try_into().unwrap();
-    let plain = sum(
-        &bits(&Key::new(key).dec(&cipher)),
-        &bits(neighbour(iv, text, j)),
-    );
-    out[place..place + 16].copy_from_slice(&bytes(&plain));
-    0
+    number
 }
 
 // Ciphertext stealing of a message (request 03). The answer is the number.
@@ -419,26 +436,24 @@ pub fn steal(
     out: &mut [u8],
     place: usize,
 ) -> u8 {
-    let (number, mut session) = Session::open(Mode::Cbc, direction, 128, key, iv);
-    if number != 0 {
-        return number;
+    let (opened, mut session) = Session::open(Mode::Cbc, direction, 128, key, iv);
+    if opened != 0 {
+        return opened;
     }
-    if count > 8 * input.len() || count > MAX_BITS {
-        return 6;
+    let number = first_no(&[
+        (6, bits_there(input, count, MAX_BITS)),
+        (13, count % 8 == 0 && count > 128),
+        (8, room_for(count / 8, out.len(), place)),
+    ]);
+    if number == 0 {
+        let text = bits(&input[..count / 8]);
+        let worked = match direction {
+            Direction::Encrypt => steal_encrypt(&mut session, &text),
+            Direction::Decrypt => steal_decrypt(&mut session, &text),
+        };
+        write(out, place, &bytes(&worked));
     }
-    if count % 8 != 0 || count <= 128 {
-        return 13;
-    }
-    if place > out.len() || count / 8 > out.len() - place {
-        return 8;
-    }
-    let text = bits(&input[..count / 8]);
-    let worked = match direction {
-        Direction::Encrypt => steal_encrypt(&mut session, &text),
-        Direction::Decrypt => steal_decrypt(&mut session, &text),
-    };
-    out[place..place + count / 8].copy_from_slice(&bytes(&worked));
-    0
+    number
 }
 
 // Where the last 1 to 128 bits of a message begin.

@@ -1,8 +1,12 @@
 // Sessions through the static library: against OpenSSL's modes, and against the reference for what OpenSSL does not have.
-use crate::openssl::{Cipher, Direction};
+use crate::arguments::{iv_for, Feed};
+use crate::direction::Direction;
+use crate::fips197::Schedule;
+use crate::hex::hex;
+use crate::openssl::Cipher;
 use crate::rattle;
 use crate::reference::{self, parts, Mode, MAX_UNITS, MODES};
-use crate::report::{equal, hex, Outcome, Report};
+use crate::report::{equal, Outcome, Report};
 use crate::rng::Rng;
 
 pub const KEY_LENGTHS: [usize; 3] = [16, 24, 32];
@@ -58,10 +62,6 @@ pub fn run(report: &mut Report) {
         "a number that is no mode is answered 12: opened the refused session, fed nothing changed",
         no_mode,
     );
-}
-
-fn iv_for(rng: &mut Rng, mode: Mode) -> Vec<u8> {
-    rng.bytes(if mode == Mode::Ecb { 0 } else { 16 })
 }
 
 fn open(
@@ -152,10 +152,10 @@ pub fn same<Numbers: PartialEq + std::fmt::Debug>(
         (session.mode as usize, decrypting, session.n, session.m),
         (came.1.mode, came.1.decrypting, came.1.n, came.1.m),
     )?;
-    let keys = session.key.as_ref().map_or([0; 240], |key| key.keys);
+    let Schedule { rounds, keys } = &session.schedule;
     equal(
         &input,
-        (session.rounds(), hex(&keys), hex(&session.register)),
+        (*rounds, hex(keys), hex(&session.register)),
         (came.1.rounds, hex(&came.1.keys), hex(&came.1.register)),
     )?;
     equal(
@@ -209,47 +209,6 @@ fn as_reference(rng: &mut Rng, mode: Mode) -> Outcome {
         }
     }
     Ok(())
-}
-
-// A feed's arguments: most are accepted, some break a question each.
-pub struct Feed {
-    pub input: Vec<u8>,
-    pub bits: usize,
-    pub out: Vec<u8>,
-    pub place: usize,
-}
-
-impl Feed {
-    pub fn any(rng: &mut Rng, n: usize) -> Feed {
-        let units = rng.below(if n < 8 { 40 } else { 6 });
-        let mut bits = units * n.max(1);
-        match rng.below(16) {
-            0 => bits += rng.below(128),
-            1 => bits = rng.number() as usize,
-            2 => bits = 0,
-            _ => {}
-        }
-        let needed = parts(bits.min(2000), 8);
-        let input_length = match rng.below(12) {
-            0 => rng.below(needed + 1),
-            _ => needed + rng.below(3),
-        };
-        let place = match rng.below(16) {
-            0 => rng.number() as usize,
-            1 => 0,
-            _ => rng.below(20),
-        };
-        let out_length = match rng.below(12) {
-            0 => rng.below(needed + 20),
-            _ => place.min(50) + needed + rng.below(3),
-        };
-        Feed {
-            input: rng.bytes(input_length),
-            bits,
-            out: vec![rng.number() as u8; out_length],
-            place,
-        }
-    }
 }
 
 // From a session that has done all units but `left`.

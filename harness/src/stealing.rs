@@ -1,11 +1,14 @@
 // Ciphertext stealing through the program replay: messages against OpenSSL's CBC-CTS, all arguments against the reference. What
 // request 03 says of a loss is then asked of the program's own texts.
+use crate::arguments::{any_direction, any_key};
 use crate::cost;
-use crate::openssl::{Cipher, Direction};
-use crate::reference::{self, parts, MAX_BITS};
-use crate::replay::{any_direction, any_key, letter, word, Script};
-use crate::report::{equal, from_hex, hex, Outcome, Report};
+use crate::direction::Direction;
+use crate::hex::{from_hex, hex, word};
+use crate::openssl::Cipher;
+use crate::reference::{parts, MAX_BITS};
+use crate::report::{equal, Outcome, Report};
 use crate::rng::Rng;
+use crate::script::Script;
 use crate::sessions::KEY_LENGTHS;
 
 // The bytes of the shortest message and of the largest.
@@ -56,7 +59,7 @@ pub fn run(report: &mut Report) {
     });
 }
 
-// A message into an output of its own length.
+// A message into an output of its own length; what it becomes is OpenSSL's.
 fn message(
     script: &mut Script,
     direction: Direction,
@@ -64,17 +67,17 @@ fn message(
     iv: &[u8],
     input: &[u8],
     expected: &[u8],
-) {
+) -> Outcome {
     let size = input.len();
     let line = format!(
         "steal {} {} {} {} {size} 0 00 {}",
-        letter(direction),
+        direction.letter(),
         hex(key),
         hex(iv),
         8 * size,
         hex(input)
     );
-    script.line(line, format!("0 {}", hex(expected)));
+    script.known(line, &format!("0 {}", hex(expected)))
 }
 
 fn openssl(direction: Direction, key: &[u8], iv: &[u8], input: &[u8]) -> Vec<u8> {
@@ -84,20 +87,20 @@ fn openssl(direction: Direction, key: &[u8], iv: &[u8], input: &[u8]) -> Vec<u8>
 }
 
 // A plaintext is encrypted, its ciphertext decrypted, and a random text decrypted.
-fn as_openssl(rng: &mut Rng, script: &mut Script, key: &[u8], length: usize) {
+fn as_openssl(rng: &mut Rng, script: &mut Script, key: &[u8], length: usize) -> Outcome {
     let (iv, plain, other) = (rng.bytes(16), rng.bytes(length), rng.bytes(length));
     let cipher = openssl(Direction::Encrypt, key, &iv, &plain);
     let decrypted = openssl(Direction::Decrypt, key, &iv, &other);
-    message(script, Direction::Encrypt, key, &iv, &plain, &cipher);
-    message(script, Direction::Decrypt, key, &iv, &cipher, &plain);
-    message(script, Direction::Decrypt, key, &iv, &other, &decrypted);
+    message(script, Direction::Encrypt, key, &iv, &plain, &cipher)?;
+    message(script, Direction::Decrypt, key, &iv, &cipher, &plain)?;
+    message(script, Direction::Decrypt, key, &iv, &other, &decrypted)
 }
 
 fn every_length(rng: &mut Rng, key_length: usize) -> Outcome {
     let mut script = Script::new();
     for length in LEAST..=SHORT {
         let key = rng.bytes(key_length);
-        as_openssl(rng, &mut script, &key, length);
+        as_openssl(rng, &mut script, &key, length)?;
     }
     script.run().map(|_| ())
 }
@@ -110,7 +113,7 @@ fn long_messages(rng: &mut Rng) -> Outcome {
     }
     for length in lengths {
         let key = any_key(rng);
-        as_openssl(rng, &mut script, &key, length);
+        as_openssl(rng, &mut script, &key, length)?;
     }
     script.run().map(|_| ())
 }
@@ -124,8 +127,8 @@ fn mostly(rng: &mut Rng, length: usize) -> Vec<u8> {
     rng.bytes(length)
 }
 
-// Most calls are accepted, some break one question or more. The answer is the number.
-fn call(rng: &mut Rng, script: &mut Script) -> u8 {
+// Most calls are accepted, some break one question or more.
+fn call(rng: &mut Rng, script: &mut Script) {
     let length = LEAST + rng.below(80);
     let key_length = *rng.pick(&KEY_LENGTHS);
     let (key, iv) = (mostly(rng, key_length), mostly(rng, 16));
@@ -148,29 +151,26 @@ fn call(rng: &mut Rng, script: &mut Script) -> u8 {
         _ => place.min(20) + length + rng.below(3) * rng.below(20),
     };
     let (direction, fill) = (any_direction(rng), rng.number() as u8);
-    let mut out = vec![fill; size];
-    let number = reference::steal(direction, &key, &iv, &input, bits, &mut out, place);
-    let line = format!(
+    script.line(format!(
         "steal {} {} {} {bits} {size} {place} {fill:02x} {}",
-        letter(direction),
+        direction.letter(),
         word(&key),
         word(&iv),
         word(&input)
-    );
-    script.line(line, format!("{number} {}", word(&out)));
-    number
+    ));
 }
 
 fn calls(rng: &mut Rng) -> Outcome {
     let mut script = Script::new();
-    let mut numbers: Vec<u8> = (0..CALLS).map(|_| call(rng, &mut script)).collect();
+    for _ in 0..CALLS {
+        call(rng, &mut script);
+    }
     script.run()?;
-    numbers.sort_unstable();
-    numbers.dedup();
+    let often = ["0", "1", "2", "6", "8", "13"].map(|number| script.how_often("steal", number));
     equal(
-        || "the numbers answered".to_string(),
-        vec![0, 1, 2, 6, 8, 13],
-        numbers,
+        || format!("each number is answered, {often:?}, and no other"),
+        (true, CALLS),
+        (often.iter().all(|&count| count > 0), often.iter().sum()),
     )
 }
 
@@ -185,7 +185,7 @@ struct Pair {
 }
 
 // Behind the change there is a common block at least that is neither the run's first nor one of a message's last two.
-fn pair(rng: &mut Rng, script: &mut Script) -> Pair {
+fn pair(rng: &mut Rng, script: &mut Script) -> Result<Pair, String> {
     let (key, iv, other_iv) = (any_key(rng), rng.bytes(16), rng.bytes(16));
     let full = 10 + rng.below(16);
     let tail = 1 + rng.below(16);
@@ -198,8 +198,8 @@ fn pair(rng: &mut Rng, script: &mut Script) -> Pair {
     let same_iv = rng.below(3) != 0;
     let changed_iv = if same_iv { &iv } else { &other_iv };
     let received = openssl(Direction::Decrypt, &key, changed_iv, &changed);
-    message(script, Direction::Encrypt, &key, &iv, &plain, &cipher);
-    message(script, Direction::Decrypt, &key, &iv, &cipher, &plain);
+    message(script, Direction::Encrypt, &key, &iv, &plain, &cipher)?;
+    message(script, Direction::Decrypt, &key, &iv, &cipher, &plain)?;
     message(
         script,
         Direction::Decrypt,
@@ -207,14 +207,14 @@ fn pair(rng: &mut Rng, script: &mut Script) -> Pair {
         changed_iv,
         &changed,
         &received,
-    );
-    Pair {
+    )?;
+    Ok(Pair {
         first,
         lost,
         inserted,
         same_iv,
         at: script.count() - 2,
-    }
+    })
 }
 
 // The text that the program printed.
@@ -254,7 +254,8 @@ impl Pair {
 // A run from the start under one IV is the same in both texts; any other common run is so but for its first block.
 fn recovery(rng: &mut Rng) -> Outcome {
     let mut script = Script::new();
-    let pairs: Vec<Pair> = (0..PAIRS).map(|_| pair(rng, &mut script)).collect();
+    let pairs: Result<Vec<Pair>, String> = (0..PAIRS).map(|_| pair(rng, &mut script)).collect();
+    let pairs = pairs?;
     let printed = script.run()?;
     for pair in pairs {
         let (one, other) = (text(&printed[pair.at]), text(&printed[pair.at + 1]));
@@ -284,8 +285,8 @@ fn whole_blocks(rng: &mut Rng) -> Outcome {
             let (key, iv, input) = (rng.bytes(key_length), rng.bytes(16), rng.bytes(16 * blocks));
             let cipher = exchanged(&cbc(Direction::Encrypt, &key, &iv, &input));
             let plain = cbc(Direction::Decrypt, &key, &iv, &exchanged(&input));
-            message(&mut script, Direction::Encrypt, &key, &iv, &input, &cipher);
-            message(&mut script, Direction::Decrypt, &key, &iv, &input, &plain);
+            message(&mut script, Direction::Encrypt, &key, &iv, &input, &cipher)?;
+            message(&mut script, Direction::Decrypt, &key, &iv, &input, &plain)?;
         }
     }
     script.run().map(|_| ())

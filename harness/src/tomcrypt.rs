@@ -1,6 +1,6 @@
 // Debian's libtomcrypt, a portable implementation in C. It has no CFB with short segments. Its counters in CTR are of whole bytes;
 // they count up behind each block and wrap without a word.
-use crate::openssl::Direction;
+use crate::direction::Direction;
 use std::os::raw::{c_char, c_int, c_uchar, c_ulong, c_void};
 use std::sync::Once;
 

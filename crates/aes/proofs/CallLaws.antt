@@ -6,11 +6,12 @@ use mathlib.Core.Logic.{inl, inr, _↔_}
 use Prim.Native.Nat.{ℕ, _+_, _/_}
 use lib.ListN.{length, replicate}
 use Rattle.cipher.specs.Cipher.{roundsOk}
+use Rattle.cipher.specs.Promises.{UndoEachOther}
 use Rattle.cipher.proofs.TestLaws.{passed}
-use Rattle.cipher.proofs.CipherLaws.{enc-refused, dec-refused}
+use Rattle.cipher.proofs.CipherLaws.{enc-refused, dec-refused, undo-each-other}
 use Rattle.aes.specs.KeyExpansion.{roundsFor, roundKeys}
 use Rattle.aes.specs.Calls.{keyOk, keyNumber, keyRounds, keyBytes, encrypted, decrypted, Expanded}
-use Rattle.aes.specs.Promises.{AcceptedExpands, KeyLength, CallsAnswer}
+use Rattle.aes.specs.Promises.{AcceptedExpands, KeyGivesCipher, KeyLength, CallsAnswer}
 use Rattle.aes.proofs.KeyLaws.{keyBytes-length, keyBytes-bytes}
 
 module _ (key : List ℕ) where
@@ -21,6 +22,12 @@ module _ (key : List ℕ) where
   pub key-refused : keyOk key ≡ false → Expanded key 1 0 (replicate 240 0)
   unfolding keyNumber keyRounds keyBytes
   key-refused e = record { answer = rw e; expanded-rounds = rw e; expanded-keys = rw e }
+
+  pub accepted-rounds : keyOk key ≡ true → roundsOk (keyRounds key) ≡ true
+  unfolding keyOk keyRounds roundsFor roundsOk
+  accepted-rounds ok =
+      ap (λ b. roundsOk (cond b (roundsFor (length key / 4)) 0)) ok
+      ∙ passed (λ l. roundsOk (roundsFor (l / 4)) ≡ true) (length key) 16 24 32 ok refl refl refl
 
   -- ---- the number
 
@@ -79,15 +86,18 @@ module _ (key : List ℕ) where
 -- ---- the promises
 
 pub accepted-expands : AcceptedExpands
-unfolding AcceptedExpands keyOk keyRounds roundsFor roundsOk
+unfolding AcceptedExpands
 accepted-expands key bytes ok =
     record {
-      rounds =
-          ap (λ b. roundsOk (cond b (roundsFor (length key / 4)) 0)) ok
-          ∙ passed (λ l. roundsOk (roundsFor (l / 4)) ≡ true) (length key) 16 24 32 ok refl refl refl;
+      rounds = accepted-rounds key ok;
       size = keyBytes-length key;
       bytes = keyBytes-bytes key bytes;
     }
+
+pub key-gives-cipher : KeyGivesCipher
+unfolding KeyGivesCipher AcceptedExpands UndoEachOther encrypted decrypted
+key-gives-cipher key bytes ok =
+    let expands = accepted-expands key bytes ok in undo-each-other (keyRounds key) (keyBytes key) (expands .rounds) (expands .bytes)
 
 pub calls-answer : CallsAnswer
 calls-answer =

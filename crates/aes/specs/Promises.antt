@@ -5,7 +5,7 @@ use mathlib.Core.Bool.{true}
 use mathlib.Core.List.{List}
 use mathlib.Core.Logic.{_⊎_, _↔_}
 use lib.ListN.{length, replicate}
-use Rattle.bits.specs.Blocks.{Bytes}
+use Rattle.bits.specs.Blocks.{Bytes, BlockCipher}
 use Rattle.cipher.specs.Cipher.{roundsOk}
 use Rattle.aes.specs.Calls.{keyOk, keyNumber, keyRounds, keyBytes, encrypted, decrypted, Expanded, BlockAnswer}
 
@@ -17,6 +17,11 @@ pub record KeyExpands (key : List ℕ) : Type 0 where
 
 unfoldable pub AcceptedExpands : Type 0
 AcceptedExpands = (key : List ℕ) → Bytes key → keyOk key ≡ true → KeyExpands key
+
+-- An accepted key gives a block cipher: under it each of the two calls takes blocks to blocks, and they undo each other. (Document 01,
+-- "two facts about the block cipher only"; `UndoEachOther` says it of Enc and Dec under given round keys.)
+unfoldable pub KeyGivesCipher : Type 0
+KeyGivesCipher = (key : List ℕ) → Bytes key → keyOk key ≡ true → BlockCipher (encrypted key) (decrypted key)
 
 unfoldable pub KeyLength : ℕ → Type 0
 KeyLength n = (n ≡ 16) ⊎ (n ≡ 24) ⊎ (n ≡ 32)

@@ -11,8 +11,10 @@ use Rattle.modes.specs.Sessions.{FedWithin, FedBy, feedNumberWithin}
 use Rattle.modes.specs.Lists.{Call}
 use Rattle.modes.proofs.FeedLaws.{refused-same, units-within}
 use Rattle.carry.specs.declared.Session32.{Session32}
-use Rattle.carry.specs.Older.{olderMaxUnits, Fits, carried, Call32, carriedFed, FedBy32}
-use Rattle.carry.specs.Promises.{SameParts, PartsKept, SameFeed, SameAnswer}
+use Rattle.carry.specs.OlderQuestions.{olderMaxUnits}
+use Rattle.carry.specs.Older.{Fits, carried, Call32, FedBy32}
+use Rattle.carry.specs.Promises.{SameParts, PartsKept, carriedFed, SameFeed, SameAnswer}
+use Rattle.carry.proofs.GivenLaws.{given-feed}
 use Rattle.carry.proofs.LimitLaws.{same-but-9}
 
 pub parts-kept : PartsKept
@@ -38,17 +40,18 @@ raised f same =
 -- The older answer of a feed that was not 9 is today's.
 pub raised-32 : (s : Session32) (c : Call32) → FedBy32 s c → (c .number ≡ 9 → ⊥)
     → FedBy (carried s) (c .input) (c .count) (c .out) (c .place) (carriedFed c) (c .after)
-unfolding FedBy32 carriedFed feedNumberWithin
+unfolding carriedFed feedNumberWithin
 raised-32 s c f not-9 =
-    raised f
-    (same-but-9 (carried s .mode) (carried s .rounds) (carried s .n) (carried s .m) (carried s .closed) (carried s .units) (length (c .input)) (c .count) (length (c .out)) (c .place) olderMaxUnits maxUnits (omega arith) (λ e. not-9 (f .answer ∙ e)))
+    let within = given-feed s c .0 f in
+    raised within
+    (same-but-9 (carried s .mode) (carried s .rounds) (carried s .n) (carried s .m) (carried s .closed) (carried s .units) (length (c .input)) (c .count) (length (c .out)) (c .place) olderMaxUnits maxUnits (omega arith) (λ e. not-9 (within .answer ∙ e)))
 
 -- An older session's units fit again after each feed.
 pub fits-after : (s : Session32) (c : Call32) → FedBy32 s c → Fits s → Fits (c .session)
-unfolding Fits FedBy32 carriedFed carried
+unfolding Fits carriedFed carried
 fits-after s c f fits =
-    let within : c .session .units ≤ olderMaxUnits = units-within f (omega (arith, fits)) in
-    omega (arith, within)
+    let few : c .session .units ≤ olderMaxUnits = units-within (given-feed s c .0 f) (omega (arith, fits)) in
+    omega (arith, few)
 
 -- One feed on both.
 module _ (s : Session32) (c : Call32) (d : Call) (same : SameFeed c d) (f : FedBy32 s c)
@@ -58,9 +61,9 @@ module _ (s : Session32) (c : Call32) (d : Call) (same : SameFeed c d) (f : FedB
 
   -- refused by both, both stay as they were
   pub both-same : (c .number ≡ 0 → ⊥) → (d .result .number ≡ 0 → ⊥) → (d .result .session ≡ carried (c .session)) × (d .after ≡ c .after)
-  unfolding FedBy32 carriedFed
+  unfolding carriedFed
   both-same refused refused′ =
-      let (session, output) = refused-same f refused in
+      let (session, output) = refused-same (given-feed s c .0 f) refused in
       let (session′, output′) = refused-same same-fed refused′ in
       (session′ ∙ sym session, output′ ∙ sym output)
 

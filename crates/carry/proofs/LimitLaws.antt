@@ -8,6 +8,7 @@ use borrow.Author.Tests.{leb-true, leb-false, le-leb}
 use Rattle.rules.specs.declared.Mode.{Mode}
 use Rattle.rules.specs.Rules.{unitsIn}
 use Rattle.questions.specs.Questions.{Question, ask, sessionOk, bitsOk, unitsOk, countersOk, maxBits, feedQuestionsTo8, feedQuestions}
+use Rattle.questions.specs.Promises.{AllYes}
 
 -- ---- any list
 
@@ -15,10 +16,6 @@ use Rattle.questions.specs.Questions.{Question, ask, sessionOk, bitsOk, unitsOk
 abbrev Without : ℕ → List Question → Type 0
 Without k [] = Unit {0}
 Without k (q ∷ qs) = (q .number ≡ k → ⊥) × Without k qs
-
-abbrev AllYes : List Question → Type 0
-AllYes [] = Unit {0}
-AllYes (q ∷ qs) = (q .yes ≡ true) × AllYes qs
 
 module _ (q : Question) (rest : List Question) where
   -- where r says 'yes' wherever q does, and q's number was not the answer

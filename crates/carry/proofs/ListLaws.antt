@@ -5,6 +5,7 @@ use mathlib.Core.List.{List, [], _∷_, _++_}
 use native.Mathlib.Omega.{arith}
 use lib.Dec.{eqb}
 use borrow.Author.Tests.{eqb-true, eqb-false}
+use Rattle.rules.specs.declared.Direction.the-variants.{Decrypt}
 use Rattle.modes.specs.declared.session.Session.{Session}
 use Rattle.modes.specs.Lists.{Call, Run, done, fed}
 use Rattle.modes.specs.Promises.{DemandTwo, DemandThree}
@@ -12,8 +13,9 @@ use Rattle.modes.proofs.FeedLaws.{refused-same}
 use Rattle.modes.proofs.DemandTwo.{demand-two}
 use Rattle.modes.proofs.DemandThree.{demand-three}
 use Rattle.carry.specs.declared.Session32.{Session32}
-use Rattle.carry.specs.Older.{Fits, carried, Call32, carriedFed, FedBy32, Run32, done32, fed32}
-use Rattle.carry.specs.Promises.{UnitsFit, SameFeeds, SameWhileAllowed, NeverPast, GoesOn, CarriedGoesOn, todays, acceptedFeeds, AcrossTheChange, DemandTwoAcross, DemandThreeAcross}
+use Rattle.carry.specs.Older.{Fits, carried, Call32, Run32, done32, fed32}
+use Rattle.carry.specs.Promises.{carriedFed, UnitsFit, SameFeeds, SameWhileAllowed, NeverPast, GoesOn, CarriedGoesOn, todays, acceptedFeeds, AcrossTheChange, DemandTwoAcross, DemandThreeAcross}
+use Rattle.carry.proofs.GivenLaws.{given-feed, given-opening}
 use Rattle.carry.proofs.CarryLaws.{raised-32, fits-after, both-same, same-answer}
 use Rattle.carry.proofs.PastLaws.{past-older}
 
@@ -60,14 +62,14 @@ carried-goes-on s t end olds calls fits older run same = goes-on fits older run 
 
 across : {s t : Session32} {end : Session} {olds : List Call32} {calls : List Call} → Run32 s olds t → Run (carried t) calls end
     → Run (carried s) (acceptedFeeds olds ++ calls) end
-unfolding acceptedFeeds todays FedBy32 carriedFed
+unfolding acceptedFeeds todays carriedFed
 across done32 run = run
 across {s} {end = end} {calls = calls} (fed32 {c = c} {cs = cs} f older) run = by-number (eqb (c .number) 0) refl (across older run)
   where
     by-number : (b : Bool) → eqb (c .number) 0 ≡ b → Run (carried (c .session)) (acceptedFeeds cs ++ calls) end
         → Run (carried s) (cond b (todays c ∷ acceptedFeeds cs) (acceptedFeeds cs) ++ calls) end
     by-number true e rest = fed (raised-32 s c f (λ at-9. omega (arith, at-9, eqb-true (c .number) 0 e))) rest
-    by-number false e rest = rw (refused-same f (eqb-false (c .number) 0 e) .0) at rest
+    by-number false e rest = rw (refused-same (given-feed s c .0 f) (eqb-false (c .number) 0 e) .0) at rest
 
 pub across-the-change : AcrossTheChange
 unfolding AcrossTheChange
@@ -75,10 +77,10 @@ across-the-change s t end olds calls older run = across older run
 
 pub demand-two-across : DemandTwoAcross
 unfolding DemandTwoAcross DemandTwo
-demand-two-across mode dir n m key iv r s t end olds calls bytes iv-bytes opened accepted first older run =
-    demand-two mode dir n m key iv r (acceptedFeeds olds ++ calls) end bytes iv-bytes opened accepted (rw first (across older run))
+demand-two-across mode dir n m key iv s t end olds calls bytes iv-bytes opened older run =
+    demand-two mode dir n m key iv (record { number = 0; session = carried s }) (acceptedFeeds olds ++ calls) end bytes iv-bytes (given-opening mode dir n m key iv 0 s .0 opened) refl (across older run)
 
 pub demand-three-across : DemandThreeAcross
 unfolding DemandThreeAcross DemandThree
-demand-three-across mode n m m′ key v w r q bytes v-bytes w-bytes opened accepted opened′ accepted′ s t end olds calls first older run s′ t′ end′ olds′ others first′ older′ run′ =
-    demand-three mode n m m′ key v w r q (acceptedFeeds olds ++ calls) (acceptedFeeds olds′ ++ others) end end′ bytes v-bytes w-bytes opened accepted opened′ accepted′ (rw first (across older run)) (rw first′ (across older′ run′))
+demand-three-across mode n m m′ key v w bytes v-bytes w-bytes s t end olds calls opened older run s′ t′ end′ olds′ others opened′ older′ run′ =
+    demand-three mode n m m′ key v w (record { number = 0; session = carried s }) (record { number = 0; session = carried s′ }) (acceptedFeeds olds ++ calls) (acceptedFeeds olds′ ++ others) end end′ bytes v-bytes w-bytes (given-opening mode Decrypt n m key v 0 s .0 opened) refl (given-opening mode Decrypt n m′ key w 0 s′ .0 opened′) refl (across older run) (across older′ run′)

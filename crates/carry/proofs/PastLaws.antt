@@ -1,40 +1,30 @@
 -- Where the older release answered 9: the carried session answers as question 15 does, by the bits of the counter. Assumes nothing.
-use Prim.Native.Nat.{ℕ, _+_, _*_, _^_, _≤_, _<_}
+use Prim.Native.Nat.{ℕ, _+_, _^_, _≤_, _<_}
 use mathlib.Core.Path.{_≡_, refl, sym, ap, _∙_}
 use mathlib.Core.Logic.{_↔_}
 use mathlib.Core.Bool.{Bool, true, false, cond}
-use native.Mathlib.Nat.{mul-le-mul-left}
 use native.Mathlib.Omega.{arith}
 use lib.Pow.{pow-mono}
 use lib.Dec.{leb}
 use lib.ListN.{length}
-use borrow.Author.Tests.{leb-true, leb-false, le-leb, lt-leb, eqb-true}
+use borrow.Author.Tests.{leb-true, le-leb, lt-leb, eqb-true}
 use Rattle.rules.specs.declared.Mode.{Mode}
 use Rattle.rules.specs.declared.Mode.the-variants.{Ecb, Cbc, Cfb, Ofb, Ctr}
 use Rattle.rules.specs.Lengths.{counterLengthOk}
 use Rattle.rules.specs.Rules.{unitsIn}
-use Rattle.rules.proofs.Counts.{unit-there}
+use Rattle.rules.proofs.Counts.{units-few}
 use Rattle.rules.proofs.Taken.{unit-bounds}
 use Rattle.questions.specs.Questions.{countersOk, maxBits, maxUnits}
 use Rattle.questions.proofs.QuestionLaws.{session-good, bits-small}
 use Rattle.modes.specs.Sessions.{FedBy, feedNumberWithin}
 use Rattle.modes.specs.Lists.{Call}
 use Rattle.carry.specs.declared.Session32.{Session32}
-use Rattle.carry.specs.Older.{olderMaxUnits, Fits, carried, Call32, carriedFed, FedBy32}
-use Rattle.carry.specs.Promises.{SameFeed, PastTheOlderLimit}
+use Rattle.carry.specs.OlderQuestions.{olderMaxUnits}
+use Rattle.carry.specs.Older.{Fits, carried, Call32, FedBy32}
+use Rattle.carry.specs.Promises.{carriedFed, SameFeed, PastTheOlderLimit}
+use Rattle.carry.proofs.GivenLaws.{given-feed}
 use Rattle.carry.proofs.LimitLaws.{At9, at-9}
 use Rattle.carry.proofs.CarryLaws.{same-fed}
-
--- A text has no more units than bits.
-units-few : {n : ℕ} (b : ℕ) → 0 < n → unitsIn n b ≤ b
-units-few {n} b pos = by-test (leb (unitsIn n b) b) refl
-  where
-    by-test : (t : Bool) → leb (unitsIn n b) b ≡ t → unitsIn n b ≤ b
-    by-test true e = leb-true (unitsIn n b) b e
-    by-test false e =
-        let short : b * n < b = unit-there b b pos .0 (leb-false (unitsIn n b) b e) in
-        let long : b * 1 ≤ b * n = mul-le-mul-left b pos in
-        absurd (omega arith)
 
 -- Which counters have room for so many units: more than the older limit, by no more than the bits of a feed.
 module _ (m done new : ℕ) (past : olderMaxUnits < done + new) (near : done + new ≤ olderMaxUnits + maxBits) where
@@ -66,8 +56,8 @@ without Ctr m other e = absurd (other refl)
 module _ (s : Session32) (c : Call32) (d : Call) (same : SameFeed c d) (f : FedBy32 s c)
     (g : FedBy (carried s) (d .input) (d .count) (d .out) (d .place) (d .result) (d .after)) where
   told-by-9 : c .number ≡ 9 → At9 (s .mode) (s .rounds) (s .n) (s .m) (s .closed) (s .units) (length (c .input)) (c .count) (length (c .out)) (c .place) olderMaxUnits
-  unfolding FedBy32 carriedFed carried feedNumberWithin
-  told-by-9 e = at-9 _ _ _ _ _ _ _ _ _ _ olderMaxUnits (sym (f .answer) ∙ e)
+  unfolding carriedFed carried feedNumberWithin
+  told-by-9 e = at-9 _ _ _ _ _ _ _ _ _ _ olderMaxUnits (sym (given-feed s c .0 f .answer) ∙ e)
 
   pub past-older : Fits s → c .number ≡ 9 → PastTheOlderLimit s c d
   unfolding Fits carried feedNumberWithin

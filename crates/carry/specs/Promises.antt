@@ -11,14 +11,15 @@ use Rattle.rules.specs.declared.Mode.the-variants.{Ctr}
 use Rattle.rules.specs.declared.Direction.{Direction}
 use Rattle.rules.specs.declared.Direction.the-variants.{Decrypt}
 use Rattle.rules.specs.Rules.{unitsIn}
-use Rattle.questions.specs.Questions.{countersOk}
+use Rattle.questions.specs.Questions.{countersOk, openQuestions, feedQuestions}
 use Rattle.modes.specs.declared.session.Session.{Session}
-use Rattle.modes.specs.declared.session.Opened.{Opened}
-use Rattle.modes.specs.Sessions.{OpenedBy}
+use Rattle.modes.specs.declared.session.Fed.{Fed}
+use Rattle.modes.specs.Sessions.{OpenedBy, FedWithin}
 use Rattle.modes.specs.Lists.{Call, Run}
 use Rattle.modes.specs.Promises.{TextOf, Recovered}
 use Rattle.carry.specs.declared.Session32.{Session32}
-use Rattle.carry.specs.Older.{Fits, carried, Call32, carriedFed, Run32}
+use Rattle.carry.specs.OlderQuestions.{olderMaxUnits, olderOpenQuestions, olderQuestions}
+use Rattle.carry.specs.Older.{Fits, carried, OpenedBy32, Call32, FedBy32, Run32}
 
 -- ---- each part
 
@@ -36,6 +37,22 @@ pub record SameParts (older : Session32) (s : Session) : Type 0 where
 -- Carrying over keeps each part, and nothing else does.
 unfoldable pub PartsKept : Type 0
 PartsKept = (older : Session32) (s : Session) → (s ≡ carried older) ↔ SameParts older s
+
+-- ---- the older release beside today's
+
+-- Its questions, written out, are today's with its limit: one by one, for all arguments.
+pub record OlderAsks : Type 0 where
+  pub opening : (mode : Mode) (n m : ℕ) (key iv : List ℕ) → olderOpenQuestions mode n m key iv ≡ openQuestions mode n m key iv
+  pub feed : (s : Session32) (bytes count size place : ℕ) → olderQuestions s bytes count size place ≡ feedQuestions olderMaxUnits (s .mode) (s .rounds) (s .n) (s .m) (s .closed) (s .units) bytes count size place
+
+-- What a feed of that release returned, its session carried over.
+unfoldable pub carriedFed : Call32 → Fed
+carriedFed c = record { number = c .number; session = carried (c .session); runs = c .runs }
+
+-- Its opening gave exactly what today's gives, and its feed exactly what today's gives with that limit.
+pub record OlderGives : Type 0 where
+  pub opening : (mode : Mode) (dir : Direction) (n m : ℕ) (key iv : List ℕ) (number : ℕ) (s : Session32) → OpenedBy32 mode dir n m key iv number s ↔ OpenedBy mode dir n m key iv (record { number = number; session = carried s })
+  pub feed : (s : Session32) (c : Call32) → FedBy32 s c ↔ FedWithin olderMaxUnits (carried s) (c .input) (c .count) (c .out) (c .place) (carriedFed c) (c .after)
 
 -- ---- the older release's count
 
@@ -64,7 +81,7 @@ pub record SameAnswer (c : Call32) (d : Call) : Type 0 where
   pub session : d .result .session ≡ carried (c .session)
   pub runs : d .result .runs ≡ c .runs
 
--- The older session s answered 9: no question before that one says 'no', and of those behind it 15 alone may.
+-- The older session s answered 9: no question before that one says 'no', and of those after it 15 alone may.
 pub record PastTheOlderLimit (s : Session32) (c : Call32) (d : Call) : Type 0 where
   pub exactly : d .result .number ≡ cond (countersOk (s .m) (s .units) (unitsIn (s .n) (c .count))) 0 15
   -- in every mode but CTR it is accepted, and with a counter from 33 bits on; with fewer than 32 it is not; with 32 it is exactly where the
@@ -110,25 +127,23 @@ unfoldable pub acceptedFeeds : List Call32 → List Call
 acceptedFeeds [] = []
 acceptedFeeds (c ∷ cs) = cond (eqb (c .number) 0) (todays c ∷ acceptedFeeds cs) (acceptedFeeds cs)
 
--- Feeds of the older release up to the change, and feeds on the carried session behind it, are one list of today's feeds. So all that is
+-- Feeds of the older release up to the change, and feeds on the carried session after it, are one list of today's feeds. So all that is
 -- promised of lists holds across the change.
 unfoldable pub AcrossTheChange : Type 0
 AcrossTheChange =
     (s t : Session32) (end : Session) (olds : List Call32) (calls : List Call) → Run32 s olds t → Run (carried t) calls end
     → Run (carried s) (acceptedFeeds olds ++ calls) end
 
--- Demands 2 and 3, for sessions opened in the older release: its opening gave what today's gives, and the change may come at any place of
--- each list.
+-- Demands 2 and 3, for sessions that the older release's opening gave with the number 0. The change may come at any place of each list.
 unfoldable pub DemandTwoAcross : Type 0
 DemandTwoAcross =
-    (mode : Mode) (dir : Direction) (n m : ℕ) (key iv : List ℕ) (r : Opened) (s t : Session32) (end : Session) (olds : List Call32) (calls : List Call)
-    → Bytes key → Bytes iv → OpenedBy mode dir n m key iv r → r .number ≡ 0 → r .session ≡ carried s → Run32 s olds t → Run (carried t) calls end
+    (mode : Mode) (dir : Direction) (n m : ℕ) (key iv : List ℕ) (s t : Session32) (end : Session) (olds : List Call32) (calls : List Call)
+    → Bytes key → Bytes iv → OpenedBy32 mode dir n m key iv 0 s → Run32 s olds t → Run (carried t) calls end
     → TextOf mode dir n m key iv (acceptedFeeds olds ++ calls) end
 
 unfoldable pub DemandThreeAcross : Type 0
 DemandThreeAcross =
-    (mode : Mode) (n m m′ : ℕ) (key v w : List ℕ) (r q : Opened) → Bytes key → Bytes v → Bytes w
-    → OpenedBy mode Decrypt n m key v r → r .number ≡ 0 → OpenedBy mode Decrypt n m′ key w q → q .number ≡ 0
-    → (s t : Session32) (end : Session) (olds : List Call32) (calls : List Call) → r .session ≡ carried s → Run32 s olds t → Run (carried t) calls end
-    → (s′ t′ : Session32) (end′ : Session) (olds′ : List Call32) (others : List Call) → q .session ≡ carried s′ → Run32 s′ olds′ t′ → Run (carried t′) others end′
+    (mode : Mode) (n m m′ : ℕ) (key v w : List ℕ) → Bytes key → Bytes v → Bytes w
+    → (s t : Session32) (end : Session) (olds : List Call32) (calls : List Call) → OpenedBy32 mode Decrypt n m key v 0 s → Run32 s olds t → Run (carried t) calls end
+    → (s′ t′ : Session32) (end′ : Session) (olds′ : List Call32) (others : List Call) → OpenedBy32 mode Decrypt n m′ key w 0 s′ → Run32 s′ olds′ t′ → Run (carried t′) others end′
     → Recovered mode n m m′ key v w (acceptedFeeds olds ++ calls) (acceptedFeeds olds′ ++ others)

@@ -17,6 +17,13 @@ use Rattle.grammar.proofs.EndedLaws.{bind-bind}
 abbrev Exact : {A : Type 0} → List LineForm → (List ℕ → Option A) → Type 0
 Exact lines read = (s : List ℕ) → openIn lines s ≡ false → endsIn lines s ≡ not (isSome (read s))
 
+still-open : (line : LineForm) (lines : List LineForm) (s : List ℕ) → cut 10 s ≡ none → openIn (line ∷ lines) s ≡ true
+unfolding openIn
+still-open line lines s e = rw e refl
+
+true-not-false : true ≡ false → ⊥
+true-not-false h = let z : _≡_ {A = ℕ} 0 1 = cc in omega arith
+
 nothing-more : {A : Type 0} (a : A) → Exact [] (λ s. given (eqb (length s) 0) a)
 unfolding endsIn
 nothing-more a [] h = refl
@@ -32,12 +39,11 @@ module _ {A : Type 0} (line : LineForm) (lines : List LineForm) (read : Cut → 
 
   a-line : Exact (line ∷ lines) (λ s. cut 10 s >>= read)
   unfolding endsIn openIn
-  a-line s h = by-cut (cut 10 s) h
+  a-line s h = by-cut (cut 10 s) refl
     where
-      by-cut : (o : Option Cut) → byCut o true (λ c. openIn lines (c .behind)) ≡ false
-          → byCut o (ltb (line .most) (length s)) (λ c. cond (line .good (c .before)) (endsIn lines (c .behind)) true) ≡ not (isSome (o >>= read))
-      by-cut none h = absurd (let z : _≡_ {A = ℕ} 0 1 = cc in omega arith)
-      by-cut (some c) h = complete-line c (line .good (c .before)) refl h
+      by-cut : (o : Option Cut) → cut 10 s ≡ o → endsIn (line ∷ lines) s ≡ not (isSome (cut 10 s >>= read))
+      by-cut none e = absurd (true-not-false (sym (still-open line lines s e) ∙ h))
+      by-cut (some c) e = rw e (complete-line c (line .good (c .before)) refl (rw e at h))
 
 hex-line : {A : Type 0} (limit : ℕ) (lines : List LineForm) (read : HexLine → Option A)
     → ((bytes : List ℕ) → Exact lines (λ s. read (record { bytes = bytes; behind = s }))) → Exact (digitsForm limit ∷ lines) (λ s. hexLine limit s >>= read)

@@ -14,7 +14,7 @@ use lib.Seq.{length-take-le, take-all, drop-drop}
 use Rattle.grammar.specs.Texts.{given, upTo, cut, all, isHex}
 use Rattle.grammar.specs.declared.form.Digits.{Digits}
 use Rattle.grammar.specs.Grammar.{digitsFit, hexLine}
-use Rattle.grammar.specs.Answers.{bytesAt, lineIn, LineFits, LineRead}
+use Rattle.grammar.specs.Answers.{bytesAt, lineIn, LineFits, LinePlaced, LineRead}
 use Rattle.grammar.proofs.RangeLaws.{and-first}
 
 -- a part that is lent from a place to the end
@@ -47,7 +47,7 @@ pub fit-front : (limit : ℕ) (s : List ℕ) (len : ℕ) → digitsFit limit (ta
 fit-front limit s len fit h = rw (length-take-le len s (le-of-lt h)) at (fit-size limit (take len s) fit)
 
 module _ (limit : ℕ) (s : List ℕ) (start len : ℕ) (e : len ≡ upTo 10 (rest s start)) where
-  found : len ≡ upTo 10 (drop start s)
+  pub found : len ≡ upTo 10 (drop start s)
   found = rw part-rest at e
 
   pub no-line : length (rest s start) ≤ len → hexLine limit (drop start s) ≡ none
@@ -70,6 +70,9 @@ module _ {limit : ℕ} {s : List ℕ} {start : ℕ} {r : Digits} (h : LineRead l
 
   pub line-fits : {len next : ℕ} → r ≡ Digits.Line len next → LineFits limit s start (Digits.Line len next)
   line-fits e = subst (LineFits limit s start) e (h .fits)
+
+  pub line-places : {len next : ℕ} → r ≡ Digits.Line len next → LinePlaced s start (Digits.Line len next)
+  line-places e = subst (LinePlaced s start) e (h .places)
 
   pub line-bad : r ≡ Digits.Bad → hexLine limit (drop start s) ≡ none
   line-bad e = sym (h .line) ∙ ap (lineIn s start) e

@@ -1,10 +1,10 @@
--- The longest texts: each piece that the grammar reads is bounded, and a text of the form has at most 8,461 bytes. Assumes
--- nothing.
+-- The longest texts: each piece that the grammar reads is bounded, a text of the form has at most 8,461 bytes, and its data 4,096.
+-- Assumes nothing.
 use mathlib.Core.Path.{_≡_, refl, sym, _∙_}
 use mathlib.Core.Bool.{Bool, true, false, _&&_}
 use mathlib.Core.List.{List}
 use mathlib.Core.Option.{Option, none, some}
-use Prim.Native.Nat.{ℕ, _+_, _≤_, _<_}
+use Prim.Native.Nat.{ℕ, _+_, _/_, _≤_, _<_}
 use native.Mathlib.Omega.{arith}
 use borrow.Author.Tests.{ltb-true, leb-true, eqb-true, eqb-false}
 use lib.Dec.{leb, ltb, eqb}
@@ -15,6 +15,7 @@ use Rattle.grammar.specs.Texts.{given, _>>=_, upTo, Cut, cut, all, isDec
 use Rattle.grammar.specs.Grammar.{modeOf, lengthOf, directionOf, First, behindMode, firstOf, HexLine, digitsFit, hexLine, Request, behindFirst, request}
 use Rattle.grammar.proofs.RangeLaws.{and-first, and-second}
 use Rattle.grammar.proofs.WordLaws.{same-other}
+use Rattle.grammar.proofs.DigitLaws.{length-hexBytes}
 use Rattle.grammar.proofs.LineLaws.{fit-size}
 
 -- ---- what an answer that is there tells of the steps to it
@@ -104,6 +105,32 @@ request-size s e =
     bound (cut 10 s) e
     (λ line found e. bound (firstOf (line .before)) e
     (λ first is e. omega (arith, cut-size 10 s found, first-size (line .before) is, behind-first-size first (line .behind) e)))
+
+-- ---- the data
+
+hex-bytes : (limit : ℕ) (s : List ℕ) {h : HexLine} → hexLine limit s ≡ some h → length (h .bytes) ≤ limit / 2
+unfolding hexLine
+hex-bytes limit s e =
+    bound (cut 10 s) e
+    (λ line found e.
+    let w = line .before in
+    let (fit, is) = given-true (digitsFit limit w) {a = record { bytes = hexBytes w; behind = line .behind }} e in
+    rw (← is) (omega (arith, length-hexBytes w, fit-size limit w fit)))
+
+message-behind : (first : First) (s : List ℕ) {q : Request} → behindFirst first s ≡ some q → length (q .message) ≤ 4096
+unfolding behindFirst
+message-behind first s e =
+    bound (hexLine 128 s) e
+    (λ key k e. bound (hexLine 128 (key .behind)) e
+    (λ iv i e. bound (hexLine 8192 (iv .behind)) e
+    (λ message m e.
+    let q : Request = record { mode = first .mode; n = first .n; direction = first .direction; key = key .bytes; iv = iv .bytes; message = message .bytes } in
+    rw (← given-true (eqb (length (message .behind)) 0) {a = q} e .1) (hex-bytes 8192 (iv .behind) m))))
+
+pub message-size : (s : List ℕ) {q : Request} → request s ≡ some q → length (q .message) ≤ 4096
+unfolding request
+message-size s e =
+    bound (cut 10 s) e (λ line found e. bound (firstOf (line .before)) e (λ first is e. message-behind first (line .behind) e))
 
 -- ---- a longer text
 

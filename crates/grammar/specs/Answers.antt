@@ -12,7 +12,7 @@ use Rattle.grammar.specs.declared.header.Decimal.{Decimal}
 use Rattle.grammar.specs.declared.header.Header.{Header}
 use Rattle.grammar.specs.declared.form.Digits.{Digits}
 use Rattle.grammar.specs.declared.form.Form.{Form}
-use Rattle.grammar.specs.Texts.{hexBytes}
+use Rattle.grammar.specs.Texts.{upTo, hexBytes}
 use Rattle.grammar.specs.Grammar.{First, HexLine, hexLine, Request}
 
 -- ---- of the first line
@@ -48,9 +48,15 @@ abbrev pub LineFits : ℕ → List ℕ → ℕ → Digits → Type 0
 LineFits limit s start (Digits.Line len next) = (start + len ≤ length s) × (len ≤ limit) × (next ≤ length s)
 LineFits limit s start Digits.Bad = Unit
 
+-- Its digits go up to the line feed, and `next` is the place after that.
+abbrev pub LinePlaced : List ℕ → ℕ → Digits → Type 0
+LinePlaced s start (Digits.Line len next) = (len ≡ upTo 10 (drop start s)) × (next ≡ start + len + 1)
+LinePlaced s start Digits.Bad = Unit
+
 pub record LineRead (limit : ℕ) (s : List ℕ) (start : ℕ) (r : Digits) : Type 0 where
   pub line : lineIn s start r ≡ hexLine limit (drop start s)
   pub fits : LineFits limit s start r
+  pub places : LinePlaced s start r
 
 -- ---- of the four lines
 
@@ -79,6 +85,20 @@ abbrev pub FormFits : List ℕ → Form → Type 0
 FormFits s (Form.Lines mode n direction key key-len iv iv-len message message-len) = Within s key key-len iv iv-len message message-len
 FormFits s Form.Bad = Unit
 
-pub record FormRead (s : List ℕ) (value : Option Request) (r : Form) : Type 0 where
+-- Where the digits stand: the key's from `first` on, those of each line up to its line feed, and the next line after that.
+pub record Placed (s : List ℕ) (first key key-len iv iv-len message message-len : ℕ) : Type 0 where
+  pub key-place : key ≡ first
+  pub key-digits : key-len ≡ upTo 10 (drop key s)
+  pub iv-place : iv ≡ key + key-len + 1
+  pub iv-digits : iv-len ≡ upTo 10 (drop iv s)
+  pub message-place : message ≡ iv + iv-len + 1
+  pub message-digits : message-len ≡ upTo 10 (drop message s)
+
+abbrev pub FormPlaced : List ℕ → ℕ → Form → Type 0
+FormPlaced s first (Form.Lines mode n direction key key-len iv iv-len message message-len) = Placed s first key key-len iv iv-len message message-len
+FormPlaced s first Form.Bad = Unit
+
+pub record FormRead (s : List ℕ) (first : ℕ) (value : Option Request) (r : Form) : Type 0 where
   pub form : requestIn s r ≡ value
   pub fits : FormFits s r
+  pub places : FormPlaced s first r

@@ -5,8 +5,9 @@ use crate::hex::digits_fit;
 use crate::scan::up_to;
 use rules::Direction;
 use rules::Mode;
-ghost use Prim.Native.Nat.{_≤_};
+ghost use Prim.Native.Nat.{_+_, _≤_};
 ghost use lib.ListN.{length, drop};
+ghost use Rattle.grammar.specs.Texts.{upTo};
 ghost use Rattle.grammar.specs.Grammar.{behindFirst, request};
 ghost use Rattle.grammar.specs.Answers.{LineRead, FormRead};
 
@@ -54,7 +55,7 @@ fn digits_line(s: &[u8], start: usize, limit: usize) -> Digits
 // The key, the IV and the data, and nothing behind them.
 fn behind_first(mode: Mode, n: usize, direction: Direction, s: &[u8], key: usize) -> Form
     requires { ⌜ key ≤ length (now s) ⌝ }
-    ensures { λ r. ⌜ FormRead (now (s .entry)) (behindFirst (record { mode = mode; n = n; direction = direction }) (drop key (now (s .entry)))) r ⌝ }
+    ensures { λ r. ⌜ FormRead (now (s .entry)) key (behindFirst (record { mode = mode; n = n; direction = direction }) (drop key (now (s .entry)))) r ⌝ }
 {
     let Digits::Line {
         len: key_len,
@@ -94,7 +95,7 @@ fn behind_first(mode: Mode, n: usize, direction: Direction, s: &[u8], key: usize
 }
 
 pub fn parse(input: &[u8]) -> Form
-    ensures { λ r. ⌜ FormRead (now (input .entry)) (request (now (input .entry))) r ⌝ }
+    ensures { λ r. ⌜ FormRead (now (input .entry)) (upTo 10 (now (input .entry)) + 1) (request (now (input .entry))) r ⌝ }
 {
     let end = up_to(input, b'\n');
     if input.len() <= end {

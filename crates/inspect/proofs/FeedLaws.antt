@@ -12,8 +12,9 @@ use Rattle.bits.specs.Xor.{xorBytes}
 use Rattle.bits.specs.Texts.{bits, pack}
 use Rattle.bits.specs.Blocks.{Bytes}
 use Rattle.bits.proofs.Texts.{length-bits, take-bits, drop-bits, take-bytes, drop-bytes, pack-bits}
-use Rattle.cipher.specs.Cipher.{Enc, Dec}
-use Rattle.aes.specs.Calls.{keyRounds, keyBytes, decrypted}
+use Rattle.aes.specs.Calls.{encrypted, decrypted}
+use Rattle.aes.specs.Promises.{KeyGivesCipher}
+use Rattle.aes.proofs.CallLaws.{key-gives-cipher}
 use Rattle.rules.specs.declared.Mode.the-variants.{Cbc}
 use Rattle.rules.specs.declared.Direction.the-variants.{Decrypt}
 use Rattle.rules.specs.Lengths.{wholeUnits}
@@ -22,8 +23,7 @@ use Rattle.rules.proofs.Counts.{whole-there}
 use Rattle.rules.proofs.Taken.{Taken, taken}
 use Rattle.rules.proofs.Undo.{worked-unit}
 use Rattle.modes.specs.Sessions.{openedSession, sessionText}
-use Rattle.modes.proofs.OpeningLaws.{opened-session, opened-ready}
-use Rattle.modes.proofs.SessionLaws.{ciphers}
+use Rattle.modes.proofs.OpeningLaws.{asked, opened-session, opened-ready}
 use Rattle.inspect.specs.Single.{blockAt, neighbourOf, plainBlock}
 use Rattle.inspect.specs.Promises.{BlockOfTheFeed}
 use Rattle.inspect.proofs.NumberLaws.{block-there}
@@ -56,11 +56,11 @@ module _ (text : List ℕ) (h : Bytes text) where
   whole-text whole = eq-eqb (length (bits text) % 128) 0 (rw length-bits (omega arith))
 
 pub block-of-the-feed : BlockOfTheFeed
-unfolding BlockOfTheFeed plainBlock decrypted sessionText openedSession
+unfolding BlockOfTheFeed KeyGivesCipher plainBlock encrypted decrypted sessionText openedSession
 block-of-the-feed key iv text j r hk hi ht opening accepted there =
     let (whole, inside) = block-there (length text) j there in
     let ready = opened-ready opening accepted hk hi in
     let units : Taken Cbc 128 (bits text) = taken Cbc 128 (bits text) (ready .unit) (whole-text text ht whole) in
     rw (opened-session opening accepted)
-    (sym (worked-unit (ciphers ready) 128 Decrypt (ready .arrays .register) units j (whole-there (length (bits text)) j (lit< tt) (rw length-bits (omega arith)))
-    ∙ block-out text ht (Enc (keyRounds key) (keyBytes key)) (Dec (keyRounds key) (keyBytes key)) iv j))
+    (sym (worked-unit (key-gives-cipher key hk (asked opening accepted .key-size)) 128 Decrypt (ready .arrays .register) units j (whole-there (length (bits text)) j (lit< tt) (rw length-bits (omega arith)))
+    ∙ block-out text ht (encrypted key) (decrypted key) iv j))

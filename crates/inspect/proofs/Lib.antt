@@ -2,6 +2,7 @@
 pub mod NumberLaws
 pub mod NeighbourLaws
 pub mod AnswerLaws
+pub mod AcceptLaws
 pub mod RefusalLaws
 pub mod FeedLaws
 pub mod CallLaws

@@ -10,7 +10,8 @@ use lib.ListN.{length}
 use Rattle.aes.specs.Calls.{keyOk}
 use Rattle.rules.specs.declared.Mode.the-variants.{Cbc}
 use Rattle.questions.specs.Questions.{ask, ivOk, roomOk}
-use Rattle.questions.proofs.QuestionLaws.{first-yes}
+use Rattle.questions.specs.Promises.{AcceptedExactly}
+use Rattle.questions.proofs.QuestionLaws.{accepted-exactly}
 use Rattle.inspect.specs.Single.{blockOk, neighbourQuestions, singleQuestions, singleNumber}
 
 -- ---- the neighbour's questions
@@ -20,10 +21,9 @@ pub record NeighbourTaken (iv text : List ℕ) (j : ℕ) : Type 0 where
   pub block-yes : blockOk (length text) j ≡ true
 
 pub neighbour-taken : (iv text : List ℕ) (j : ℕ) → ask (neighbourQuestions iv text j) ≡ 0 → NeighbourTaken iv text j
-unfolding neighbourQuestions
-neighbour-taken iv text j e2 =
-    let (q2, e11) = first-yes _ _ (omega arith) e2 in
-    let (q11, e0) = first-yes _ _ (omega arith) e11 in
+unfolding AcceptedExactly neighbourQuestions
+neighbour-taken iv text j e =
+    let (q2, (q11, end)) = accepted-exactly (neighbourQuestions iv text j) (omega arith) .0 e in
     record { iv-yes = q2; block-yes = q11 }
 
 pub iv-length : (iv : List ℕ) → ivOk Cbc iv ≡ true → length iv ≡ 16
@@ -67,10 +67,5 @@ module _ (key iv text : List ℕ) (j size place : ℕ) where
 
   -- at 0, block j is there and so is the room
   pub single-taken : singleNumber key iv text j size place ≡ 0 → (blockOk (length text) j ≡ true) × (roomOk size place 16 ≡ true)
-  unfolding singleNumber singleQuestions
-  single-taken e1 =
-      let (q1, e2) = first-yes _ _ (omega arith) e1 in
-      let (q2, e11) = first-yes _ _ (omega arith) e2 in
-      let (q11, e8) = first-yes _ _ (omega arith) e11 in
-      let (q8, e0) = first-yes _ _ (omega arith) e8 in
-      (q11, q8)
+  unfolding AcceptedExactly singleNumber singleQuestions
+  single-taken e = let (q1, (q2, (q11, (q8, end)))) = accepted-exactly (singleQuestions key iv text j size place) (omega arith) .0 e in (q11, q8)

@@ -1,5 +1,5 @@
 -- What is promised of a single CBC block and of sessions that are alike.
-use Prim.Native.Nat.{ℕ, _*_}
+use Prim.Native.Nat.{ℕ, _+_, _*_, _/_, _%_, _≤_, _<_}
 use mathlib.Core.Path.{_≡_}
 use mathlib.Core.Logic.{_↔_}
 use mathlib.Core.Bool.{true}
@@ -7,6 +7,7 @@ use mathlib.Core.List.{List, []}
 use lib.ListN.{length, take, drop}
 use Rattle.bits.specs.Texts.{bits}
 use Rattle.bits.specs.Blocks.{Bytes}
+use Rattle.aes.specs.Promises.{KeyLength}
 use Rattle.rules.specs.declared.Mode.the-variants.{Cbc}
 use Rattle.rules.specs.declared.Direction.the-variants.{Decrypt}
 use Rattle.rules.specs.Rules.{unitAt}
@@ -37,6 +38,23 @@ unfoldable pub BlockRefusedUnchanged : Type 0
 BlockRefusedUnchanged =
     (key iv text : List ℕ) (j : ℕ) (out : List ℕ) (place number : ℕ) (after : List ℕ) → SingleBy key iv text j out place number after
     → (number ≡ 0 → ⊥) → after ≡ out
+
+-- Which single blocks are accepted, in plain numbers: document 01, "Questions before work".
+pub record AcceptableSingle (key iv text : List ℕ) (j : ℕ) (out : List ℕ) (place : ℕ) : Type 0 where
+  -- 1. The key is 16, 24 or 32 bytes long.
+  pub key-length : KeyLength (length key)
+  -- 2. The IV is 16 bytes long.
+  pub iv-length : length iv ≡ 16
+  -- 11. The ciphertext is a multiple of 16 bytes with j below its number of blocks.
+  pub whole-blocks : length text % 16 ≡ 0
+  pub block-there : j < length text / 16
+  -- 8. The output place is at most the output's length, with enough bytes from there for the block.
+  pub room : place + 16 ≤ length out
+
+unfoldable pub SingleAccepts : Type 0
+SingleAccepts =
+    (key iv text : List ℕ) (j : ℕ) (out : List ℕ) (place number : ℕ) (after : List ℕ) → SingleBy key iv text j out place number after
+    → (number ≡ 0) ↔ AcceptableSingle key iv text j out place
 
 -- An empty neighbour is a refused one: one that is not refused has 16 bytes.
 unfoldable pub EmptyIsRefused : Type 0

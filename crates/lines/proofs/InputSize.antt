@@ -2,6 +2,8 @@
 -- form. Assumes nothing.
 use mathlib.Core.Path.{_≡_, refl}
 use mathlib.Core.Bool.{Bool, true, false}
+use mathlib.Core.List.{List}
+use Prim.Native.Nat.{ℕ, _<_}
 use native.Mathlib.Omega.{arith}
 use borrow.Author.Tests.{leb-true, leb-false}
 use lib.Dec.{leb}
@@ -11,15 +13,20 @@ use Rattle.grammar.proofs.SizeLaws.{too-long}
 use Rattle.grammar.proofs.EndedLaws.{ended-refuses}
 use Rattle.lines.specs.Answer.{answerTo, answerBytes, FrontDecides, EndDecides}
 
-pub front-decides : FrontDecides
-unfolding FrontDecides answerBytes
-front-decides s = by-length (leb (length s) 8462) refl
+-- any count past the longest text of the form
+front-of : (count : ℕ) → 8461 < count → (s : List ℕ) → answerBytes (take count s) ≡ answerBytes s
+unfolding answerBytes
+front-of count past s = by-length (leb (length s) count) refl
   where
-    by-length : (b : Bool) → leb (length s) 8462 ≡ b → answerBytes (take 8462 s) ≡ answerBytes s
-    by-length true e = rw (take-all 8462 s (leb-true _ _ e))
+    by-length : (b : Bool) → leb (length s) count ≡ b → answerBytes (take count s) ≡ answerBytes s
+    by-length true e = rw (take-all count s (leb-true _ _ e))
     by-length false e =
-        let long = leb-false (length s) 8462 e in
-        rw (too-long s (omega arith), too-long (take 8462 s) (rw (length-take-le 8462 s (omega arith)) (omega arith)))
+        let long = leb-false (length s) count e in
+        rw (too-long s (omega arith), too-long (take count s) (rw (length-take-le count s (omega arith)) (omega arith)))
+
+pub front-decides : FrontDecides
+unfolding FrontDecides
+front-decides = front-of 8462 (omega arith)
 
 pub end-decides : EndDecides
 unfolding EndDecides answerBytes answerTo

@@ -4,3 +4,4 @@ pub mod NumberBounds
 pub mod FeedLines
 pub mod RequestLines
 pub mod InputSize
+pub mod PrintedLaws

@@ -27,7 +27,7 @@ part-is s start len = rw add-sub-cancel-left
 pub part-size : (s : List ℕ) (start len : ℕ) → length (part s start len) ≤ len
 part-size s start len = rw (part-is, length-take) (omega arith)
 
-module _ {s : List ℕ} {r : Form} (read : FormRead s (request s) r) where
+module _ {s : List ℕ} {first : ℕ} {r : Form} (read : FormRead s first (request s) r) where
   pub bad-form : r ≡ Form.Bad → answerBytes s ≡ lineOf 12 []
   unfolding answerBytes answerTo
   bad-form e = rw (← read .form, e)

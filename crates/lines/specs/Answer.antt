@@ -45,6 +45,19 @@ FrontDecides = (input : List ℕ) → answerBytes (take 8462 input) ≡ answerBy
 unfoldable pub EndDecides : Type 0
 EndDecides = (front more : List ℕ) → readingEnds front ≡ true → answerBytes (front ++ more) ≡ lineOf 12 []
 
+-- What may be printed: 0 with bytes, or alone the number of question 1, 2, 3, 7 or 12. A session just opened, fed all the data into as
+-- much room, meets no other 'no'.
+pub data Printed : List ℕ → Type 0 where
+  accepted : (bytes : List ℕ) → Printed (lineOf 0 bytes)
+  key-refused : Printed (lineOf 1 [])
+  iv-refused : Printed (lineOf 2 [])
+  n-refused : Printed (lineOf 3 [])
+  bits-refused : Printed (lineOf 7 [])
+  form-refused : Printed (lineOf 12 [])
+
+unfoldable pub PrintsOneOfSix : Type 0
+PrintsOneOfSix = (input : List ℕ) → Printed (answerBytes input)
+
 -- A text written to the front of `out`: how long it is, and the bytes past it as they were.
 pub record Wrote (text out : List ℕ) (r : ℕ) (after : List ℕ) : Type 0 where
   pub count : r ≡ length text

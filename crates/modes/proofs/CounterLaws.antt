@@ -10,7 +10,7 @@ use borrow.Author.Tests.{eqb-true, eqb-false}
 use lib.ListN.{length, getD}
 use Rattle.rules.specs.declared.Mode.{Mode}
 use Rattle.rules.specs.declared.Mode.the-variants.{Ctr}
-use Rattle.rules.specs.Rules.{unitsIn, registerAt}
+use Rattle.rules.specs.Rules.{start, unitsIn, registerAt}
 use Rattle.rules.specs.Standard.{counter}
 use Rattle.rules.proofs.Counts.{units-none}
 use Rattle.rules.proofs.Counters.{ctr-register, counter-add, counter-distinct}
@@ -19,7 +19,7 @@ use Rattle.modes.specs.declared.session.Session.{Session}
 use Rattle.modes.specs.Sessions.{Arrays, openedSession, sessionRegister, fedSession}
 use Rattle.modes.specs.Lists.{Call, Run, done, fed, accepted, fedBits, allFed, along, registersUsed}
 use Rattle.modes.specs.Promises.{RefusedUnchanged}
-use Rattle.modes.specs.Counters.{EachOnce, CounterBlocksDiffer, OpenedBlocksDiffer}
+use Rattle.modes.specs.Counters.{EachOnce, CounterBlocksDiffer, OpenedBlocksDiffer, OpenedBlocksCountUp}
 use Rattle.modes.proofs.SessionLaws.{encBy, decBy, fed-ready}
 use Rattle.modes.proofs.FeedLaws.{refused-unchanged, asked, accepted-count, accepted-whole, accepted-session, accepted-ready}
 use Rattle.modes.proofs.RunLaws.{accepted-fed, ended}
@@ -136,6 +136,7 @@ each-once {s} {t} {calls} q arrays =
           omega arith;
       counted = q .counted ∙ ap (λ k. s .units + k) (sym long);
       at-most = omega (arith, bounded 0 (q .k) {b = 2 ^ s .m} (omega arith) (λ more. omega (arith, q .within more .2)));
+      block = λ i inside. used-at q i (omega arith);
     }
 
 pub counter-blocks-differ : CounterBlocksDiffer
@@ -168,3 +169,11 @@ opened-blocks-differ dir n m key iv r before calls s t key-bytes iv-bytes openin
       from-here = rw later (each-once q here);
       units = still-few q (rw later at few);
     }
+
+pub opened-blocks-count-up : OpenedBlocksCountUp
+unfolding OpenedBlocksCountUp openedSession start
+opened-blocks-count-up dir n m key iv r calls t key-bytes iv-bytes opening accepted run i worked =
+    let first = opened-session opening accepted in
+    let arrays = opened-ready opening accepted key-bytes iv-bytes .arrays in
+    let once = each-once (used-list (rw first at run) refl arrays) arrays in
+    rw first (once .block i (omega (arith, worked, once .counted)))

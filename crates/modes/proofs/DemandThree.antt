@@ -2,7 +2,7 @@
 use Prim.Native.Nat.{ℕ, zero, suc, _+_, _*_, _≤_, _<_}
 use mathlib.Core.Path.{_≡_, refl, sym, ap, _∙_}
 use mathlib.Core.List.{List, []}
-use native.Mathlib.Nat.{le-trans, le-of-mul-le-mul-right}
+use native.Mathlib.Nat.{le-refl, le-trans, le-of-mul-le-mul-right}
 use native.Mathlib.Omega.{arith}
 use lib.ListN.{length, getD}
 use Rattle.bits.specs.Blocks.{Bytes}
@@ -21,10 +21,10 @@ use Rattle.modes.specs.Lists.{Call, Run, allFed, registersAfter, registe
 use Rattle.modes.specs.Promises.{Followed, DemandThree}
 use Rattle.modes.proofs.OpeningLaws.{opened-session, opened-ready}
 use Rattle.modes.proofs.OpenedRuns.{opened-run}
-use Rattle.modes.proofs.SessionLaws.{Ready}
 use Rattle.modes.proofs.MachineLaws.{sessionOf}
 use Rattle.modes.proofs.AgreementLaws.{beside}
 use Rattle.modes.proofs.RegisterLaws.{along-length, along-at, sessionRegisters, list-registers}
+use Rattle.modes.proofs.UsedLaws.{list-used}
 
 -- One list: its machine, and the registers by the unit rules.
 record ListRun (o : Opening) (calls : List Call) : Type 0 where
@@ -36,17 +36,22 @@ list-run : (o : Opening) {r : Opened} {calls : List Call} {t : Session} → Byte
     → OpenedBy (o .mode) Decrypt (o .n) (o .m) (o .key) (o .iv) r → r .number ≡ 0 → Run (r .session) calls t → ListRun o calls
 unfolding machineStart sessionOf openedSession registers sessionRegisters sessionRegister registerAt encrypted decrypted
 list-run o {r} {calls} {t} key-bytes iv-bytes opening accepted run =
-    let same = opened-session opening accepted in
-    let ready : Ready (r .session) = rw same (opened-ready opening accepted key-bytes iv-bytes) in
-    let m = beside run (machineStart o) same ready in
-    let regs = list-registers run (machineStart o) same ready ∙ ap (λ s. sessionRegisters s (allFed calls)) same in
-    let units = opened-run o Decrypt key-bytes iv-bytes opening accepted run .units in
+    let from = rw (opened-session opening accepted) at run in
+    let ready = opened-ready opening accepted key-bytes iv-bytes in
+    let m = beside from (machineStart o) refl ready in
+    let regs = list-registers from (machineStart o) refl ready in
+    let q = opened-run o Decrypt key-bytes iv-bytes opening accepted run in
+    let count = sym (q .units) ∙ ap (λ (s : Session). s .units) (m .session) in
     record {
       followed = record {
         agrees = m .agrees;
         ciphertext = m .ciphertext;
         plaintext = m .plaintext;
-        counted = ap suc (ap length regs ∙ along-length _ _ ∙ sym units ∙ ap (λ (s : Session). s .units) (m .session));
+        counted = ap suc (ap length regs ∙ along-length _ _ ∙ count);
+        last =
+            ap (λ k. getD (registers o calls) k []) (sym count) ∙ by-place regs (unitsIn (o .n) (length (allFed calls))) (le-refl (unitsIn (o .n) (length (allFed calls))))
+            ∙ sym (q .register) ∙ ap (λ (s : Session). s .register) (m .session);
+        used = list-used from (machineStart o) refl ready;
       };
       register = by-place regs;
     }

@@ -11,6 +11,9 @@ pub mod DemandTwo
 pub mod MachineLaws
 pub mod AgreementLaws
 pub mod RegisterLaws
+pub mod UsedLaws
 pub mod DemandThree
 pub mod CounterLaws
 pub mod WholeBlockLaws
+pub mod SentenceLaws
+pub mod AcceptLaws

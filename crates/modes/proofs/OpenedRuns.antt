@@ -7,6 +7,8 @@ use native.Mathlib.Nat.{zero-add}
 use lib.ListN.{length}
 use Rattle.bits.specs.Blocks.{Bytes, Block, BlockCipher}
 use Rattle.aes.specs.Calls.{encrypted, decrypted}
+use Rattle.aes.specs.Promises.{KeyGivesCipher}
+use Rattle.aes.proofs.CallLaws.{key-gives-cipher}
 use Rattle.rules.specs.declared.Direction.{Direction}
 use Rattle.rules.specs.Lengths.{unitLengthOk, wholeUnits}
 use Rattle.rules.specs.Rules.{start, unitsIn, registerAt, worked}
@@ -15,9 +17,8 @@ use Rattle.modes.specs.declared.session.Opened.{Opened}
 use Rattle.modes.specs.Sessions.{OpenedBy, openedSession, sessionText, sessionRegister, fedSession}
 use Rattle.modes.specs.Machine.{Opening}
 use Rattle.modes.specs.Lists.{Call, Run, allFed, allWritten}
-use Rattle.modes.proofs.SessionLaws.{ciphers}
 use Rattle.modes.proofs.RunLaws.{ended}
-use Rattle.modes.proofs.OpeningLaws.{opened-session, opened-ready}
+use Rattle.modes.proofs.OpeningLaws.{asked, opened-session, opened-ready}
 
 pub record OpenedRun (o : Opening) (dir : Direction) (calls : List Call) (t : Session) : Type 0 where
   pub block-ciphers : BlockCipher (encrypted (o .key)) (decrypted (o .key))
@@ -30,12 +31,12 @@ pub record OpenedRun (o : Opening) (dir : Direction) (calls : List Call) (t : Se
 
 pub opened-run : (o : Opening) (dir : Direction) {r : Opened} {calls : List Call} {t : Session} → Bytes (o .key) → Bytes (o .iv)
     → OpenedBy (o .mode) dir (o .n) (o .m) (o .key) (o .iv) r → r .number ≡ 0 → Run (r .session) calls t → OpenedRun o dir calls t
-unfolding openedSession sessionText sessionRegister fedSession encrypted decrypted
+unfolding KeyGivesCipher openedSession sessionText sessionRegister fedSession encrypted decrypted
 opened-run o dir {r} {calls} {t} key-bytes iv-bytes opening accepted run =
     let ready = opened-ready opening accepted key-bytes iv-bytes in
     let one = ended (rw (opened-session opening accepted) at run) ready .as-one refl in
     record {
-      block-ciphers = ciphers ready;
+      block-ciphers = key-gives-cipher (o .key) key-bytes (asked opening accepted .key-size);
       unit = ready .unit;
       block = ready .arrays .register;
       whole = one .whole;

@@ -8,13 +8,13 @@ use lib.ListN.{length, getD, replicate}
 use borrow.Author.Tests.{eqb-true, eq-eqb, ne-eqb}
 use Rattle.bits.specs.Blocks.{Bytes, Block}
 use Rattle.aes.specs.Promises.{AcceptedExpands}
-use Rattle.aes.proofs.CallLaws.{accepted-expands}
+use Rattle.aes.proofs.CallLaws.{accepted-rounds, accepted-expands}
 use Rattle.rules.specs.declared.Mode.{Mode}
 use Rattle.rules.specs.declared.Mode.the-variants.{Ecb, Cbc, Cfb, Ofb, Ctr}
 use Rattle.rules.specs.declared.Direction.{Direction}
 use Rattle.rules.specs.Rules.{start}
 use Rattle.modes.specs.declared.session.Opened.{Opened}
-use Rattle.questions.specs.Questions.{ivOk}
+use Rattle.questions.specs.Questions.{ivOk, sessionOk}
 use Rattle.modes.specs.Sessions.{OpenedBy, openNumber, openedSession}
 use Rattle.modes.specs.Promises.{RefusedOpening}
 use Rattle.questions.proofs.QuestionLaws.{OpeningTaken, opening-taken}
@@ -32,6 +32,12 @@ start-block Cbc iv bytes size = record { size = eqb-true (length iv) 16 size; by
 start-block Cfb iv bytes size = record { size = eqb-true (length iv) 16 size; bytes = bytes }
 start-block Ofb iv bytes size = record { size = eqb-true (length iv) 16 size; bytes = bytes }
 start-block Ctr iv bytes size = record { size = eqb-true (length iv) 16 size; bytes = bytes }
+
+-- Question 4 is answered 'yes' of a session just opened.
+pub opened-good : (mode : Mode) (dir : Direction) (n m : ℕ) (key iv : List ℕ) → OpeningTaken mode n m key iv
+    → sessionOk mode (openedSession mode dir n m key iv .rounds) n m ≡ true
+unfolding openedSession sessionOk
+opened-good mode dir n m key iv taken = rw (accepted-rounds key (taken .key-size), taken .unit, taken .counter)
 
 pub refused-opening : RefusedOpening
 unfolding RefusedOpening

@@ -76,15 +76,15 @@ unfolding sessionRegisters sessionOf sessionRegister encrypted decrypted
 text-registers m x = unit-registers (unitsIn (m .opening .n) (length x)) m x ∙ along-same (unitsIn (m .opening .n) (length x)) (λ t h. units-register m x (suc t))
 
 -- one feed
-abbrev feedRegistersOf : Machine → Call → List (List ℕ)
+abbrev pub feedRegistersOf : Machine → Call → List (List ℕ)
 feedRegistersOf m c = feedRegisters m (c .input) (c .count) (length (c .out)) (c .place)
 
 module _ (m : Machine) (c : Call) (f : FedBy (sessionOf m) (c .input) (c .count) (c .out) (c .place) (c .result) (c .after)) where
-  refused-registers : accepted c ≡ false → feedRegistersOf m c ≡ []
+  pub refused-registers : accepted c ≡ false → feedRegistersOf m c ≡ []
   unfolding feedRegisters accepted
   refused-registers e = rw (← (same-number m c f), e)
 
-  accepted-registers : accepted c ≡ true → Accepted (sessionOf m) c → feedRegistersOf m c ≡ sessionRegisters (sessionOf m) (fedBits c)
+  pub accepted-registers : accepted c ≡ true → Accepted (sessionOf m) c → feedRegistersOf m c ≡ sessionRegisters (sessionOf m) (fedBits c)
   unfolding feedRegisters accepted fedText
   accepted-registers e r =
       taken-all ∙ ap₂ (λ k x. unitRegisters (unitsIn (m .opening .n) k) m x) (sym (r .count)) (sym (accepted-fed c e)) ∙ text-registers m (fedBits c)

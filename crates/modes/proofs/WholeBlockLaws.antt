@@ -12,7 +12,7 @@ use Rattle.questions.proofs.QuestionLaws.{counters-enough}
 use Rattle.modes.specs.Sessions.{openNumber, feedNumberWithin}
 use Rattle.modes.specs.Counters.{WholeBlockOpening, WholeBlockFeed}
 
-whole-block : (mode : Mode) → counterLengthOk mode 128 ≡ true
+pub whole-block : (mode : Mode) → counterLengthOk mode 128 ≡ true
 unfolding counterLengthOk
 whole-block Ecb = refl
 whole-block Cbc = refl

@@ -1,4 +1,4 @@
--- Request 05: no counter block is used twice in a session, and with m = 128 nothing is otherwise than before it.
+-- Request 05: which counter blocks a session uses, that none is used twice, and that with m = 128 nothing is otherwise than before it.
 use Prim.Native.Nat.{ℕ, _+_, _^_, _≤_, _<_}
 use mathlib.Core.Path.{_≡_}
 use mathlib.Core.Bool.{not, _&&_}
@@ -13,6 +13,7 @@ use Rattle.rules.specs.declared.Mode.the-variants.{Ctr}
 use Rattle.rules.specs.declared.Direction.{Direction}
 use Rattle.rules.specs.Lengths.{unitLengthOk, wholeUnits}
 use Rattle.rules.specs.Rules.{unitsIn}
+use Rattle.rules.specs.Standard.{counter}
 use Rattle.questions.specs.Questions.{ask, ivOk, bitsOk, roomOk, unitsOk, maxBits, maxUnits}
 use Rattle.modes.specs.declared.session.Session.{Session}
 use Rattle.modes.specs.declared.session.Opened.{Opened}
@@ -27,6 +28,8 @@ pub record EachOnce (s : Session) (calls : List Call) (t : Session) : Type 0 whe
   pub counted : t .units ≡ s .units + length (registersUsed s calls)
   -- and there are no more of them than m bits have
   pub at-most : length (registersUsed s calls) ≤ 2 ^ s .m
+  -- block i is the session's R counted up i times: the T of `standardAt`, with R for T_1
+  pub block : (i : ℕ) → i < length (registersUsed s calls) → getD (registersUsed s calls) i [] ≡ counter (s .m) (s .register) i
 
 -- From any session in CTR, whoever made it.
 unfoldable pub CounterBlocksDiffer : Type 0
@@ -43,6 +46,13 @@ unfoldable pub OpenedBlocksDiffer : Type 0
 OpenedBlocksDiffer =
     (dir : Direction) (n m : ℕ) (key iv : List ℕ) (r : Opened) (before calls : List Call) (s t : Session) → Bytes key → Bytes iv
     → OpenedBy Ctr dir n m key iv r → r .number ≡ 0 → Run (r .session) before s → Run s calls t → OpenedOnce m (r .session) before s calls t
+
+-- From an accepted opening, for each unit i that was done, block i is the T of `standardAt` for the opening's m and IV.
+unfoldable pub OpenedBlocksCountUp : Type 0
+OpenedBlocksCountUp =
+    (dir : Direction) (n m : ℕ) (key iv : List ℕ) (r : Opened) (calls : List Call) (t : Session) → Bytes key → Bytes iv
+    → OpenedBy Ctr dir n m key iv r → r .number ≡ 0 → Run (r .session) calls t
+    → (i : ℕ) → i < t .units → getD (registersUsed (r .session) calls) i [] ≡ counter m iv i
 
 -- ---- m = 128
 

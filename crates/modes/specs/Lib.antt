@@ -4,4 +4,5 @@ pub mod Works
 pub mod Machine
 pub mod Lists
 pub mod Promises
+pub mod Accepts
 pub mod Counters

@@ -20,9 +20,9 @@ use Rattle.questions.specs.Questions.{ask, maxUnits, feedQuestionsTo8}
 use Rattle.modes.specs.declared.session.Session.{Session}
 use Rattle.modes.specs.declared.session.Opened.{Opened}
 use Rattle.modes.specs.declared.session.Fed.{Fed}
-use Rattle.modes.specs.Sessions.{Arrays, OpenedBy, refusedSession, feedNumber, FedBy, sessionText, fedText}
+use Rattle.modes.specs.Sessions.{Arrays, OpenedBy, openedSession, refusedSession, feedNumber, FedBy, sessionText, fedText}
 use Rattle.modes.specs.Machine.{Opening, Machine, machineStart, machineNumber, machineFeed}
-use Rattle.modes.specs.Lists.{Call, Run, allFed, allWritten, writtenBits, allRuns, machineAfter, registers}
+use Rattle.modes.specs.Lists.{Call, Run, allFed, allWritten, writtenBits, allRuns, registersUsed, machineAfter, registers}
 
 -- ---- Demand 1
 
@@ -130,6 +130,10 @@ pub record Followed (o : Opening) (calls : List Call) : Type 0 where
   pub ciphertext : machineAfter (machineStart o) calls .ciphertext ≡ allFed calls
   pub plaintext : machineAfter (machineStart o) calls .plaintext ≡ allWritten calls
   pub counted : length (registers o calls) ≡ suc (machineAfter (machineStart o) calls .units)
+  -- the last of them is the machine's R
+  pub last : getD (registers o calls) (machineAfter (machineStart o) calls .units) [] ≡ machineAfter (machineStart o) calls .register
+  -- and they are request 05's, R before each unit of the list on the opened session, followed by that R
+  pub used : registers o calls ≡ registersUsed (openedSession (o .mode) Decrypt (o .n) (o .m) (o .key) (o .iv)) calls ++ machineAfter (machineStart o) calls .register ∷ []
 
 -- The one claim over two lists of decrypting feeds with equal mode, key and n, each with its own m. x and y are their ciphertexts, p
 -- and q their plaintexts.

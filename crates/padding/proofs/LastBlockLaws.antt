@@ -1,9 +1,9 @@
 -- The promises of request 02: unpad goes by the last block alone. Assumes nothing.
-use Prim.Native.Nat.{ℕ, pred, _+_, _-_, _*_, _≤_}
+use Prim.Native.Nat.{ℕ, pred, _+_, _-_, _*_, _/_, _≤_}
 use mathlib.Core.Path.{_≡_, refl, sym, _∙_}
 use mathlib.Core.Bool.{Bool, true, false, cond}
 use mathlib.Core.List.{List, _∷_, _++_}
-use native.Mathlib.Nat.{add-zero}
+use native.Mathlib.Nat.{add-zero, mul-mod-right}
 use native.Mathlib.Omega.{arith}
 use borrow.Author.Tests.{le-leb, eq-eqb}
 use lib.Dec.{eqb}
@@ -15,14 +15,10 @@ use Rattle.questions.specs.Questions.{ask, bitsOk, maxBits}
 use Rattle.modes.specs.Sessions.{fedText}
 use Rattle.padding.specs.declared.strip.Unpadded.{Unpadded}
 use Rattle.padding.specs.Padding.{upToLastOne, lastBlock, unpaddedLength, wholeBlocks, unpadQuestions, unpadNumber, UnpaddedBy}
-use Rattle.padding.specs.Promises.{UnpadAccepts, UnpadInLastBlock, UnpadCuts, UnpadByLastBlock, ZeroBlockAs80, UnpadNever10}
+use Rattle.padding.specs.Promises.{UnpadInLastBlock, UnpadCuts, UnpadByLastBlock, ZeroBlockAs80, UnpadNever10}
 use Rattle.padding.proofs.PadLaws.{length-fed}
 use Rattle.padding.proofs.CutLaws.{cut, one-cut}
 use Rattle.padding.proofs.AnswerLaws.{unpad-taken, unpad-takes}
-
-pub unpad-accepts : UnpadAccepts
-unfolding UnpadAccepts
-unpad-accepts input count u by some whole there limit = by .answer ∙ unpad-takes (length input) count some whole there limit
 
 pub unpad-never-10 : UnpadNever10
 unfolding UnpadNever10 unpadNumber unpadQuestions ask
@@ -100,7 +96,14 @@ one-first = refl
 
 pub zero-block-as-80 : ZeroBlockAs80
 unfolding ZeroBlockAs80
-zero-block-as-80 before behind u v by-u by-v =
-    let (number-u, bits-u) = all-padding before (replicate 16 0x00) behind refl (rw zeros) u by-u in
-    let (number-v, bits-v) = all-padding before (0x80 ∷ replicate 15 0x00) behind refl (rw one-first) v by-v in
-    (number-u ∙ sym number-v, bits-u ∙ sym bits-v, λ accepted. bits-u ∙ rw (eq-eqb _ 0 (sym number-u ∙ accepted)))
+zero-block-as-80 before after u v by-u by-v =
+    let (number-u, bits-u) = all-padding before (replicate 16 0x00) after refl (rw zeros) u by-u in
+    let (number-v, bits-v) = all-padding before (0x80 ∷ replicate 15 0x00) after refl (rw one-first) v by-v in
+    record {
+      same-number = number-u ∙ sym number-v;
+      same-bits = bits-u ∙ sym bits-v;
+      accepted = λ whole few.
+          let blocks : 8 * length before + 128 ≡ 128 * (length before / 16 + 1) = omega arith in
+          number-u ∙ unpad-takes _ (8 * length before + 128) (omega arith) (rw blocks (mul-mod-right 128 _)) (omega arith) few;
+      all-before = λ accepted. bits-u ∙ rw (eq-eqb _ 0 (sym number-u ∙ accepted));
+    }

@@ -6,3 +6,4 @@ pub mod CutLaws
 pub mod AnswerLaws
 pub mod PromiseLaws
 pub mod LastBlockLaws
+pub mod AcceptLaws

@@ -8,12 +8,10 @@ use borrow.Author.Tests.{eq-eqb, ne-eqb}
 use lib.Dec.{eqb}
 use lib.ListN.{length, drop}
 use Rattle.bits.specs.Texts.{bits, bytesFor}
-use Rattle.questions.specs.Questions.{ask}
 use Rattle.modes.specs.Sessions.{fedText, written}
 use Rattle.padding.specs.declared.strip.Unpadded.{Unpadded}
-use Rattle.padding.specs.Padding.{zerosFor, padded, paddedLength, maxPadBits, padQuestions, padNumber, unpaddedLength, unpadNumber, UnpaddedBy}
-use Rattle.padding.specs.Promises.{PaddedWhole, UnpadsPadded, PadRefusedUnchanged, UnpadRefusedZero, PadAccepts, UnpadAfterPad}
-use Rattle.padding.proofs.NumberLaws.{taken, room}
+use Rattle.padding.specs.Padding.{zerosFor, padded, paddedLength, maxPadBits, padNumber, unpaddedLength, unpadNumber, UnpaddedBy}
+use Rattle.padding.specs.Promises.{PaddedWhole, UnpadsPadded, PadRefusedUnchanged, UnpadRefusedZero, UnpadAfterPad}
 use Rattle.padding.proofs.PadLaws.{length-padded, padded-whole, padded-limit, length-fed, written-fed, written-there}
 use Rattle.padding.proofs.CutLaws.{cut, one-cut, padded-cut}
 use Rattle.padding.proofs.AnswerLaws.{pad-taken, unpad-takes}
@@ -39,15 +37,6 @@ pad-refused-unchanged input count out place r after by refused =
 pub unpad-refused-zero : UnpadRefusedZero
 unfolding UnpadRefusedZero
 unpad-refused-zero input count r by refused = rw (ne-eqb (unpadNumber (length input) count) 0 (λ e. refused (by .answer ∙ e))) at (by .size)
-
-pub pad-accepts : PadAccepts
-unfolding PadAccepts padNumber padQuestions ask
-pad-accepts input count out place r after by there limit fits =
-    by .answer
-    ∙ rw (
-      taken maxPadBits (length input) count limit (omega arith),
-      room (length out) place (bytesFor (paddedLength count)) (omega arith) (omega arith),
-    )
 
 -- unpad, handed a padded text
 module _ (s : List ℕ) (x : List Bool) (handed : fedText s (length (padded x)) ≡ padded x) (there : length (padded x) ≤ 8 * length s) (limit : length x ≤ maxPadBits) where

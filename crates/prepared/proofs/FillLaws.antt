@@ -1,13 +1,17 @@
--- A loop that stores one word a turn: the words that it has stored follow a rule, and the others are as they were. Assumes nothing.
+-- A loop that stores one word a turn: the words that it has stored follow a rule, and the others are as they were, or zero. Assumes nothing.
 use mathlib.Core.Path.{_≡_, refl, sym, ap, _∙_}
+use mathlib.Core.Bool.{Bool, true, false, cond}
 use mathlib.Core.List.{List}
 use Prim.Native.Nat.{ℕ, _+_, _≤_, _<_}
 use native.Mathlib.Omega.{arith}
-use lib.ListN.{length, getD, set}
-use lib.Seq.{getD-set-other}
+use lib.Dec.{ltb, eqb}
+use lib.ListN.{length, getD, getD-replicate, set, replicate}
+use lib.Seq.{getD-set-same, getD-set-other}
+use borrow.Author.Tests.{ltb-true, ltb-false, lt-ltb, le-ltb, eqb-true, eqb-false}
 use Rattle.bits.proofs.Tables.{stored-next}
-use Rattle.prepared.specs.Words.{wordBytes}
-use Rattle.prepared.specs.Prepared.{Holds, Unmixed, unmixed}
+use Rattle.field.specs.Rows as Rows
+use Rattle.prepared.specs.Words.{byteAt, wordBytes}
+use Rattle.prepared.specs.Prepared.{Holds, zeroFrom, Unmixed, unmixed}
 
 pub held-none : (rule : ℕ → List ℕ) (words : List ℕ) → Holds 0 rule words
 held-none rule words = record { word = λ i h. absurd (omega arith) }
@@ -15,12 +19,42 @@ held-none rule words = record { word = λ i h. absurd (omega arith) }
 pub held-all : {i n : ℕ} {rule : ℕ → List ℕ} {words : List ℕ} → n ≤ i → Holds i rule words → Holds n rule words
 held-all p h = record { word = λ j hj. h .word j (omega arith) }
 
+-- ---- zero from a count on
+
+module _ (count : ℕ) (rule : ℕ → List ℕ) (i : ℕ) where
+  pub zero-before : i < count → zeroFrom count rule i ≡ rule i
+  unfolding zeroFrom
+  zero-before h = rw (lt-ltb i count h) refl
+
+  pub zero-after : count ≤ i → zeroFrom count rule i ≡ replicate 4 0
+  unfolding zeroFrom
+  zero-after h = rw (le-ltb i count h) refl
+
+pub zero-bytes : (n : ℕ) (rule : ℕ → List ℕ) → Holds n (zeroFrom 0 rule) (replicate n 0)
+unfolding wordBytes byteAt Rows.four
+zero-bytes n rule = record { word = λ i h. ap wordBytes (getD-replicate n i 0 0 h) ∙ sym (zero-after 0 rule i (omega arith)) }
+
+pub zero-all : (i : ℕ) {count n : ℕ} (rule : ℕ → List ℕ) {words : List ℕ} → i ≡ count → Holds n (zeroFrom i rule) words → Holds n (zeroFrom count rule) words
+zero-all i rule e h = rw (sym e) h
+
 module _ (l : List ℕ) (i v : ℕ) (room : i < length l) where
   kept : (j : ℕ) → (j ≡ i → ⊥) → getD (set l i v) j 0 ≡ getD l j 0
   kept j h = getD-set-other l i j v 0 h
 
   pub held-next : (rule : ℕ → List ℕ) → Holds i rule l → wordBytes v ≡ rule i → Holds (i + 1) rule (set l i v)
   held-next rule h e = record { word = stored-next l i v room (λ j x. wordBytes x ≡ rule j) (h .word) e }
+
+  pub zero-next : (n : ℕ) (rule : ℕ → List ℕ) → Holds n (zeroFrom i rule) l → wordBytes v ≡ rule i → Holds n (zeroFrom (i + 1) rule) (set l i v)
+  zero-next n rule h e = record { word = λ j hj. go j hj (eqb j i) (ltb j i) refl refl }
+    where
+      go : (j : ℕ) → j < n → (t u : Bool) → eqb j i ≡ t → ltb j i ≡ u → wordBytes (getD (set l i v) j 0) ≡ zeroFrom (i + 1) rule j
+      go j hj true u p q = let same : j ≡ i = eqb-true j i p in rw same (ap wordBytes (getD-set-same l i v 0 room) ∙ e ∙ sym (zero-before (i + 1) rule i (omega arith)))
+      go j hj false true p q =
+          ap wordBytes (kept j (eqb-false j i p)) ∙ h .word j hj ∙ zero-before i rule j (ltb-true j i q)
+          ∙ sym (zero-before (i + 1) rule j (let x = ltb-true j i q in omega arith))
+      go j hj false false p q =
+          ap wordBytes (kept j (eqb-false j i p)) ∙ h .word j hj ∙ zero-after i rule j (ltb-false j i q)
+          ∙ sym (zero-after (i + 1) rule j (let x = ltb-false j i q in let y = eqb-false j i p in omega arith))
 
   -- the words from place 4 on
   pub unmixed-next : (others : List ℕ) → 4 ≤ i → Unmixed i others l → wordBytes v ≡ unmixed (wordBytes (getD l i 0)) → Unmixed (i + 1) others (set l i v)

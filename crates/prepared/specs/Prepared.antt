@@ -4,10 +4,10 @@ use mathlib.Core.Path.{_≡_}
 use mathlib.Core.Bool.{Bool, true, false, cond}
 use mathlib.Core.List.{List}
 use lib.Dec.{ltb}
-use lib.ListN.{getD}
+use lib.ListN.{getD, replicate}
 use Rattle.bits.specs.Blocks.{Block}
 use Rattle.field.specs.Field.{product}
-use Rattle.field.specs.Boxes.{subByte, invSubByte}
+use Rattle.field.specs.Boxes.{subByte, invSubByte, Tabulates}
 use Rattle.field.specs.Rows.{four, wordAt}
 use Rattle.cipher.specs.Steps.{mixRow, invMixRow, circulant, dot}
 use Rattle.cipher.specs.Cipher.{roundsOk, Enc, Dec}
@@ -32,7 +32,7 @@ matrix decrypting = cond decrypting invMixRow mixRow
 unfoldable pub columnTimes : Bool → ℕ → ℕ → List ℕ
 columnTimes decrypting k b = four (λ r. product (circulant (matrix decrypting) r k) b)
 
--- Words whose bytes follow a rule, up to a count.
+-- Words whose bytes follow a rule, up to a count. A word of 32 bits is its four bytes.
 pub record Holds (count : ℕ) (rule : ℕ → List ℕ) (words : List ℕ) : Type 0 where
   pub word : (i : ℕ) → i < count → wordBytes (getD words i 0) ≡ rule i
 
@@ -54,13 +54,28 @@ backwardRule rounds keys i =
     cond (ltb i 4) (reversedRule rounds keys i)
     (cond (ltb i (4 * rounds)) (unmixed (reversedRule rounds keys i)) (reversedRule rounds keys i))
 
--- The words as a round takes them, in either direction.
-pub record Scheduled (decrypting : Bool) (rounds : ℕ) (keys words : List ℕ) : Type 0 where
-  pub forward : decrypting ≡ false → Holds 60 (wordAt keys) words
-  pub backward : decrypting ≡ true → roundsOk rounds ≡ true → Holds (4 * rounds + 4) (backwardRule rounds keys) words
+-- A rule up to a count, and zero bytes from there on.
+unfoldable pub zeroFrom : ℕ → (ℕ → List ℕ) → ℕ → List ℕ
+zeroFrom count rule i = cond (ltb i count) (rule i) (replicate 4 0)
+
+-- The words as the rounds take them. To encrypt these are the round keys' own; to decrypt there are as many as the rounds take, and
+-- none under rounds other than 10, 12 and 14, with zero after them.
+unfoldable pub wordRule : Bool → ℕ → List ℕ → ℕ → List ℕ
+wordRule decrypting rounds keys =
+    cond decrypting (zeroFrom (cond (roundsOk rounds) (4 * rounds + 4) 0) (backwardRule rounds keys)) (wordAt keys)
 
 -- Words that are `others`, those from place 4 up to `end` after InvMixColumns.
 pub record Unmixed (end : ℕ) (others words : List ℕ) : Type 0 where
   pub before : (i : ℕ) → i < 4 → getD words i 0 ≡ getD others i 0
   pub between : (i : ℕ) → 4 ≤ i → i < end → wordBytes (getD words i 0) ≡ unmixed (wordBytes (getD others i 0))
   pub behind : (i : ℕ) → end ≤ i → getD words i 0 ≡ getD others i 0
+
+-- ---- what `prepare` gives
+
+-- Each part by its rule, for any rounds, and what the parts are for. `kept` are the rounds in the result.
+pub record PreparedBy (decrypting : Bool) (rounds : ℕ) (keys table : List ℕ) (kept : ℕ) (last words : List ℕ) : Type 0 where
+  pub table-rule : Holds 1024 (entryRule decrypting last) table
+  pub rounds-kept : kept ≡ rounds
+  pub last-rule : Tabulates (substituted decrypting) last
+  pub words-rule : Holds 60 (wordRule decrypting rounds keys) words
+  pub block-function : PreparedFor decrypting rounds keys table last words

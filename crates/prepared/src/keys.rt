@@ -6,7 +6,7 @@ ghost use Prim.Native.Nat.{_+_, _*_, _<_};
 ghost use Rattle.field.specs.Rows.{wordAt};
 ghost use Rattle.cipher.specs.Cipher.{roundsOk};
 ghost use Rattle.prepared.specs.Words.{wordBytes};
-ghost use Rattle.prepared.specs.Prepared.{Holds, reversedRule, Scheduled, Unmixed};
+ghost use Rattle.prepared.specs.Prepared.{Holds, reversedRule, zeroFrom, wordRule, Unmixed};
 
 // Word i of the round keys.
 fn key_word(keys: &[u8; 240], i: usize) -> u32
@@ -32,15 +32,15 @@ fn forward_words(keys: &[u8; 240]) -> [u32; 60]
 // From the last round key to the first, and the columns of each in the order 0, 3, 2, 1.
 fn reversed_words(rounds: usize, keys: &[u8; 240]) -> [u32; 60]
     requires { ⌜ roundsOk rounds ≡ true ⌝ }
-    ensures { λ r. ⌜ Holds (4 * rounds + 4) (reversedRule rounds (now (keys .entry))) r ⌝ }
+    ensures { λ r. ⌜ Holds 60 (zeroFrom (4 * rounds + 4) (reversedRule rounds (now (keys .entry)))) r ⌝ }
 {
-    let mut words = [0; 60];
+    let mut reversed = [0; 60];
     let mut i: usize = 0;
     while i < 4 * rounds + 4 {
-        words[i] = key_word(keys, 4 * (rounds - i / 4) + (4 - i % 4) % 4);
+        reversed[i] = key_word(keys, 4 * (rounds - i / 4) + (4 - i % 4) % 4);
         i += 1;
     }
-    words
+    reversed
 }
 
 fn unmix_middle(rounds: usize, reversed: [u32; 60]) -> [u32; 60]
@@ -57,7 +57,7 @@ fn unmix_middle(rounds: usize, reversed: [u32; 60]) -> [u32; 60]
 }
 
 pub fn schedule(decrypting: bool, rounds: usize, keys: &[u8; 240]) -> [u32; 60]
-    ensures { λ r. ⌜ Scheduled decrypting rounds (now (keys .entry)) r ⌝ }
+    ensures { λ r. ⌜ Holds 60 (wordRule decrypting rounds (now (keys .entry))) r ⌝ }
 {
     if decrypting {
         if cipher::rounds_ok(rounds) {

@@ -1,7 +1,7 @@
 // What is prepared once for many blocks.
 use crate::keys;
 use crate::table;
-ghost use Rattle.prepared.specs.Prepared.{PreparedFor};
+ghost use Rattle.prepared.specs.Prepared.{PreparedBy};
 
 // The rounds are not read. They stand behind the table because the compiler parts a struct of arrays only at a number, and else moves
 // the table's 4 KiB once more in each feed.
@@ -13,7 +13,7 @@ pub struct Prepared {
 }
 
 pub fn prepare(decrypting: bool, rounds: usize, keys: &[u8; 240]) -> Prepared
-    ensures { λ r. ⌜ PreparedFor decrypting rounds (now (keys .entry)) (r .table) (r .last) (r .words) ⌝ }
+    ensures { λ r. ⌜ PreparedBy decrypting rounds (now (keys .entry)) (r .table) (r .rounds) (r .last) (r .words) ⌝ }
 {
     let last = table::substitution(decrypting);
     let table = table::fill_table(decrypting, &last);

@@ -14,7 +14,7 @@ use Rattle.rules.specs.declared.Mode.{Mode}
 use Rattle.rules.specs.Lengths.{unitLengthOk, counterLengthOk, wholeUnits}
 use Rattle.rules.specs.Rules.{unitsIn}
 use Rattle.questions.specs.Questions.{Question, ask, ivOk, sessionOk, bitsOk, roomOk, unitsOk, countersOk, maxBits, maxUnits, openQuestions, feedQuestions}
-use Rattle.questions.specs.Promises.{FirstNo, all-yes, here, later, NumberIsFirstNo}
+use Rattle.questions.specs.Promises.{FirstNo, all-yes, here, later, NumberIsFirstNo, AcceptedExactly}
 
 pub number-first-no : NumberIsFirstNo
 unfolding NumberIsFirstNo ask
@@ -27,6 +27,10 @@ number-first-no (q ∷ qs) = by-answer (number-first-no qs) (q .yes) refl
 
 -- ---- at 0, every answer is 'yes'
 
+pub both-true : (a b : Bool) → (a && b) ≡ true → (a ≡ true) × (b ≡ true)
+both-true true b h = (refl, h)
+both-true false b h = (h, cc)
+
 pub first-yes : (q : Question) (qs : List Question) → 0 < q .number → ask (q ∷ qs) ≡ 0 → (q .yes ≡ true) × (ask qs ≡ 0)
 unfolding ask
 first-yes q qs numbered e = by-answer (q .yes) refl e
@@ -35,9 +39,14 @@ first-yes q qs numbered e = by-answer (q .yes) refl e
     by-answer true answer rest = (answer, rest)
     by-answer false answer rest = absurd (omega arith)
 
-pub both-true : (a b : Bool) → (a && b) ≡ true → (a ≡ true) × (b ≡ true)
-both-true true b h = (refl, h)
-both-true false b h = (h, cc)
+pub accepted-exactly : AcceptedExactly
+unfolding AcceptedExactly ask
+accepted-exactly [] above = (λ e. tt, λ all. refl)
+accepted-exactly (q ∷ qs) above =
+    let exactly = accepted-exactly qs (above .1) in (
+      λ e. let (first, rest) = first-yes q qs (omega (arith, above .0)) e in (first, exactly .0 rest),
+      λ all. rw (all .0) (exactly .1 (all .1)),
+    )
 
 -- ---- single answers
 
@@ -83,12 +92,9 @@ pub record OpeningTaken (mode : Mode) (n m : ℕ) (key iv : List ℕ) : Type 0 w
   pub counter : counterLengthOk mode m ≡ true
 
 pub opening-taken : (mode : Mode) (n m : ℕ) (key iv : List ℕ) → ask (openQuestions mode n m key iv) ≡ 0 → OpeningTaken mode n m key iv
-unfolding openQuestions
-opening-taken mode n m key iv e1 =
-    let (q1, e2) = first-yes _ _ (omega arith) e1 in
-    let (q2, e3) = first-yes _ _ (omega arith) e2 in
-    let (q3, e4) = first-yes _ _ (omega arith) e3 in
-    let (q14, e5) = first-yes _ _ (omega arith) e4 in
+unfolding AcceptedExactly openQuestions
+opening-taken mode n m key iv e =
+    let (q1, (q2, (q3, (q14, end)))) = accepted-exactly (openQuestions mode n m key iv) (omega arith) .0 e in
     record { key-size = q1; iv-size = q2; unit = q3; counter = q14 }
 
 -- What an accepted feed was asked, where a session may do `limit` units.
@@ -107,15 +113,9 @@ pub record FeedTaken (limit : ℕ) (mode : Mode) (rounds n m : ℕ) (closed : Bo
 
 pub feed-taken : (limit : ℕ) (mode : Mode) (rounds n m : ℕ) (closed : Bool) (units bytes count size place : ℕ)
     → ask (feedQuestions limit mode rounds n m closed units bytes count size place) ≡ 0 → FeedTaken limit mode rounds n m closed units bytes count size place
-unfolding feedQuestions unitsOk countersOk
-feed-taken limit mode rounds n m closed units bytes count size place e4 =
-    let (q4, e5) = first-yes _ _ (omega arith) e4 in
-    let (q5, e6) = first-yes _ _ (omega arith) e5 in
-    let (q6, e7) = first-yes _ _ (omega arith) e6 in
-    let (q7, e8) = first-yes _ _ (omega arith) e7 in
-    let (q8, e9) = first-yes _ _ (omega arith) e8 in
-    let (q9, e15) = first-yes _ _ (omega arith) e9 in
-    let (q15, e16) = first-yes _ _ (omega arith) e15 in
+unfolding AcceptedExactly feedQuestions unitsOk countersOk
+feed-taken limit mode rounds n m closed units bytes count size place e =
+    let (q4, (q5, (q6, (q7, (q8, (q9, (q15, end))))))) = accepted-exactly (feedQuestions limit mode rounds n m closed units bytes count size place) (omega arith) .0 e in
     let good = session-good mode rounds n m q4 in
     record {
       rounds-good = good .0;

@@ -1,48 +1,47 @@
 // Runs a written list of calls, one to a line of standard input, and prints each call's answer as one line: a recorded
 // transmission is replayed, or a test drives lists of feeds. Bytes are lower-case hexadecimal, `-` for none; numbers are
-// decimal; FILL is the byte that the output holds before the call.
+// decimal, zeros in front among them, and 64 bits hold them; FILL is the byte that the output holds before the call. BLOCK and R are 16
+// bytes, and of `place` IV and PLACE are too; CLOSED is 0 or 1.
 //
-//     open MODE N E|D KEY IV                         NUMBER, of an opening with M = 128
-//     open-counter MODE N M E|D KEY IV               NUMBER
-//     feed BITS OUTLEN PLACE FILL INPUT              NUMBER OUT R UNITS CLOSED RUNS
-//     units COUNT                                    COUNT: the session has done that many units from now on, a test's means
-//     carry                                          UNITS: the session goes through the older release's, and is carried over
-//     forecast MODE N BITS                           NUMBER BYTES RUNS
-//     place M IV BLOCK                               NUMBER PLACE, of BLOCK in the message: IV, BLOCK and PLACE are 16 bytes
-//     pad BITS OUTLEN PLACE FILL INPUT               NUMBER LENGTH OUT
-//     unpad BITS INPUT                               NUMBER LENGTH
-//     neighbour IV TEXT J                            the part
-//     block KEY IV TEXT J OUTLEN PLACE FILL          NUMBER OUT
-//     steal E|D KEY IV BITS OUTLEN PLACE FILL INPUT  NUMBER OUT
-//     keep                                           kept: `alike` compares with this session from now on
-//     alike                                          yes or no
+//     open MODE N E|D KEY IV                             NUMBER, of an opening with M = 128
+//     open-counter MODE N M E|D KEY IV                   NUMBER
+//     feed BITS OUTLEN PLACE FILL INPUT                  NUMBER OUT R UNITS CLOSED RUNS
+//     session MODE N M E|D ROUNDS R UNITS CLOSED KEYS    set: every field by hand; KEYS are at most 240 bytes, and 00 those after them
+//     show                                               MODE N M E|D ROUNDS R UNITS CLOSED KEYS, of the session
+//     units COUNT                                        COUNT: the session has done that many units from now on, a test's means
+//     carry                                              UNITS: the session goes through the older release's, and is carried over
+//     keep                                               kept: `alike` compares with this session from now on
+//     alike                                              yes or no
+//     forecast MODE N BITS                               NUMBER BYTES RUNS
+//     place M IV BLOCK                                   NUMBER PLACE, of BLOCK in the message
+//     pad BITS OUTLEN PLACE FILL INPUT                   NUMBER LENGTH OUT
+//     unpad BITS INPUT                                   NUMBER LENGTH
+//     neighbour IV TEXT J                                the part
+//     block KEY IV TEXT J OUTLEN PLACE FILL              NUMBER OUT
+//     steal E|D KEY IV BITS OUTLEN PLACE FILL INPUT      NUMBER OUT
+//     expand KEY                                         NUMBER ROUNDS KEYS
+//     encrypt KEY BLOCK                                  NUMBER BLOCK
+//     decrypt KEY BLOCK                                  NUMBER BLOCK
 //
-// A session that a refused opening gave is there before the first opening and `keep`. A line of another form prints `?` and
-// changes nothing; so does one that is too long: INPUT, TEXT and OUTLEN have at most `MAX_BYTES` bytes, and the whole line, without
-// its line feed, `MAX_LINE`. So does `carry` where the units do not fit in the older release's 32 bits. A last line that no line feed
-// ends counts if it is not empty.
-mod arguments;
+// A session that a refused opening gave is there before the first opening and `keep`. A line of no bytes, or whose first byte is `#`,
+// is passed over and prints nothing. A line of another form prints `?` and changes nothing; so does one that is too long: INPUT, TEXT
+// and OUTLEN have at most `MAX_BYTES` bytes, and the whole line, without its line feed, `MAX_LINE` (both in the crate `script`). So
+// does `carry` where the units do not fit in the older release's 32 bits. A last line that no line feed ends counts if it is not empty.
+mod archive;
+mod blocks;
 mod commands;
+mod comparison;
 mod counters;
-mod hex;
-mod numbers;
-mod parts;
-mod print;
+mod feeds;
 mod sessions;
 mod state;
 mod texts;
-mod words;
 
 use libc::STDIN_FILENO;
-use modes::Session;
-use parts::first;
+use script::MAX_BYTES;
+use script::MAX_LINE;
+use script::first;
 use state::State;
-
-// The bytes of INPUT, TEXT and OUTLEN: 64 more than those of the largest feed, so that a list can go past it.
-const MAX_BYTES: usize = Session::MAX_BITS / 8 + 64;
-
-// Two digits for each, and the other words.
-const MAX_LINE: usize = 2 * MAX_BYTES + 1920;
 
 // Adds a byte to the line. A full line is too long, and stays full.
 fn push(line: &mut [u8], len: usize, b: u8) -> usize {
@@ -53,20 +52,34 @@ fn push(line: &mut [u8], len: usize, b: u8) -> usize {
     len
 }
 
+// Is the line passed over? A comment may be longer than a line can be.
+fn passed_over(line: &[u8], len: usize) -> bool {
+    if len == 0 {
+        return true;
+    }
+    if line.len() == 0 {
+        return true;
+    }
+    line[0] == b'#'
+}
+
 // Runs the line that is gathered, and starts the next one.
 fn end_line(
     line: &[u8],
-    input: &mut [u8],
+    space: &mut [u8],
     out: &mut [u8],
     text: &mut [u8; 65536],
     state: State,
 ) -> State {
     let len = state.len;
     let next = state.with_len(0);
+    if passed_over(line, len) {
+        return next;
+    }
     if len < line.len() {
-        commands::run(first(line, len), input, out, text, next)
+        commands::run(first(line, len), space, out, text, next)
     } else {
-        next.with_end(print::bad(text, next.end))
+        next.bad(text)
     }
 }
 
@@ -74,7 +87,7 @@ fn end_line(
 fn run_lines(
     part: &[u8],
     line: &mut [u8],
-    input: &mut [u8],
+    space: &mut [u8],
     out: &mut [u8],
     text: &mut [u8; 65536],
     state: State,
@@ -88,18 +101,17 @@ fn run_lines(
             now.len = push(line, now.len, b);
             continue;
         }
-        let next = end_line(line, input, out, text, now);
+        let next = end_line(line, space, out, text, now);
         now = next;
     }
     now
 }
 
-// Runs the part's lines, with room for the longest input and output, and writes the answers.
+// Runs the part's lines, with room for the bytes of the longest line and for the longest output, and writes the answers.
 fn run_part(part: &[u8], line: &mut [u8], text: &mut [u8; 65536], state: State) -> State {
-    let mut input = [0u8; MAX_BYTES];
+    let mut space = [0u8; MAX_LINE / 2];
     let mut out = [0u8; MAX_BYTES];
-    let next = run_lines(part, line, &mut input, &mut out, text, state);
-    next.with_end(print::flush(text, next.end))
+    run_lines(part, line, &mut space, &mut out, text, state).flushed(text)
 }
 
 // What stands behind the last line feed, run as if one ended it.

@@ -1,149 +1,131 @@
-// The commands open, open-counter, feed, units, carry and forecast.
-use crate::arguments::Output;
-use crate::arguments::TextWords;
-use crate::arguments::text_words;
-use crate::hex;
-use crate::hex::Short;
-use crate::numbers::Number;
-use crate::numbers::decimal;
-use crate::parts::fill;
-use crate::parts::first;
-use crate::print;
+// Sessions, opened and set by hand.
 use crate::state::State;
-use crate::words::word;
 use carry::Session32;
-use grammar::DirectionWord;
-use grammar::ModeWord;
-use grammar::direction_word;
-use grammar::mode_word;
-use modes::Fed;
+use modes::Opened;
 use modes::Session;
 use rules::Direction;
 use rules::Mode;
-ghost use Prim.Native.Nat.{_≤_};
+use script::Words;
+use script::bytes;
+use script::print;
 
-fn bad(state: State, text: &mut [u8; 65536]) -> State {
-    state.with_end(print::bad(text, state.end))
-}
-
-fn open_under(
-    mode: Mode,
-    direction: Direction,
-    n: usize,
-    m: usize,
-    key: Short,
-    iv: Short,
-    text: &mut [u8; 65536],
-    state: State,
-) -> State {
-    let key_bytes = key.bytes;
-    let iv_bytes = iv.bytes;
-    let opened = Session::open_counter(
-        mode,
-        direction,
-        n,
-        m,
-        first(&key_bytes, key.count),
-        first(&iv_bytes, iv.count),
-    );
+fn opened(text: &mut [u8; 65536], state: State, opened: Opened) -> State {
     let session = opened.session;
     let end = print::number(text, state.end, opened.number as u64, b'\n');
-    state.with_session(session, end)
-}
-
-// Opens with m: MODE N are words 1 and 2, and of E|D KEY IV the first is word k.
-fn open_words(line: &[u8], k: usize, m: usize, text: &mut [u8; 65536], state: State) -> State
-    requires { ⌜ k ≤ 4 ⌝ }
-{
-    let ModeWord::Named(mode) = mode_word(word(line, 1)) else {
-        return bad(state, text);
-    };
-    let Number::Value(n) = decimal(word(line, 2)) else {
-        return bad(state, text);
-    };
-    let DirectionWord::Named(direction) = direction_word(word(line, k)) else {
-        return bad(state, text);
-    };
-    let key = hex::short_bytes(word(line, k + 1));
-    if !key.good {
-        return bad(state, text);
-    }
-    let iv = hex::short_bytes(word(line, k + 2));
-    if !iv.good {
-        return bad(state, text);
-    }
-    open_under(mode, direction, n, m, key, iv, text, state)
+    state.with_session(session).with_end(end)
 }
 
 // open MODE N E|D KEY IV
-pub fn open(line: &[u8], text: &mut [u8; 65536], state: State) -> State {
-    open_words(line, 3, 8 * Session::BLOCK, text, state)
+pub fn open(words: Words, space: &[u8], text: &mut [u8; 65536], state: State) -> State {
+    let session = Session::open(
+        words.mode(1),
+        words.direction(3),
+        words.number(2),
+        bytes(space, words, 4),
+        bytes(space, words, 5),
+    );
+    opened(text, state, session)
 }
 
 // open-counter MODE N M E|D KEY IV
-pub fn open_counter(line: &[u8], text: &mut [u8; 65536], state: State) -> State {
-    let Number::Value(m) = decimal(word(line, 3)) else {
-        return bad(state, text);
-    };
-    open_words(line, 4, m, text, state)
+pub fn open_counter(words: Words, space: &[u8], text: &mut [u8; 65536], state: State) -> State {
+    let session = Session::open_counter(
+        words.mode(1),
+        words.direction(4),
+        words.number(2),
+        words.number(3),
+        bytes(space, words, 5),
+        bytes(space, words, 6),
+    );
+    opened(text, state, session)
 }
 
-// What a feed gave: its number, the output, the session's R, units and closing, and the runs of the block cipher.
-fn print_fed(text: &mut [u8; 65536], end: usize, fed: Fed, out: &[u8]) -> usize {
-    let mut at = print::number(text, end, fed.number as u64, b' ');
-    at = print::bytes(text, at, out, b' ');
-    let session = fed.session;
+fn by_hand(words: Words, space: &[u8]) -> Session {
+    let mode = words.mode(1);
+    let direction = words.direction(4);
+    let register = script::block(space, words, 6);
+    let mut keys = [0u8; 240];
+    script::copy(bytes(space, words, 9), &mut keys);
+    Session {
+        mode,
+        direction,
+        n: words.number(2),
+        m: words.number(3),
+        rounds: words.number(5),
+        keys,
+        register,
+        units: words.number(7) as u64,
+        closed: words.number(8) == 1,
+    }
+}
+
+// session MODE N M E|D ROUNDS R UNITS CLOSED KEYS
+pub fn session(words: Words, space: &[u8], text: &mut [u8; 65536], state: State) -> State {
+    if words.number(8) > 1 {
+        return state.bad(text);
+    }
+    if words.number(9) > 240 {
+        return state.bad(text);
+    }
+    let end = print::label(text, state.end, b"set", b'\n');
+    state.with_session(by_hand(words, space)).with_end(end)
+}
+
+fn print_mode(text: &mut [u8; 65536], end: usize, mode: Mode) -> usize {
+    match mode {
+        Mode::Ecb => print::label(text, end, b"ECB", b' '),
+        Mode::Cbc => print::label(text, end, b"CBC", b' '),
+        Mode::Cfb => print::label(text, end, b"CFB", b' '),
+        Mode::Ofb => print::label(text, end, b"OFB", b' '),
+        Mode::Ctr => print::label(text, end, b"CTR", b' '),
+    }
+}
+
+fn print_direction(text: &mut [u8; 65536], end: usize, direction: Direction) -> usize {
+    match direction {
+        Direction::Encrypt => print::label(text, end, b"E", b' '),
+        Direction::Decrypt => print::label(text, end, b"D", b' '),
+    }
+}
+
+// What an opening settles: mode, n, m, direction and rounds.
+fn print_settings(text: &mut [u8; 65536], end: usize, session: Session) -> usize {
+    let mode = session.mode;
+    let direction = session.direction;
+    let mut at = print_mode(text, end, mode);
+    at = print::number(text, at, session.n as u64, b' ');
+    at = print::number(text, at, session.m as u64, b' ');
+    at = print_direction(text, at, direction);
+    print::number(text, at, session.rounds as u64, b' ')
+}
+
+// What feeds move: R, units and closing.
+pub fn print_progress(text: &mut [u8; 65536], end: usize, session: Session) -> usize {
     let register = session.register;
-    at = print::block(text, at, register, b' ');
+    let mut at = print::block(text, end, register, b' ');
     at = print::number(text, at, session.units, b' ');
-    at = print::number(text, at, session.closed as u64, b' ');
-    print::number(text, at, fed.runs as u64, b'\n')
+    print::number(text, at, session.closed as u64, b' ')
 }
 
-fn feed_into(
-    input: &[u8],
-    bits: usize,
-    out: &mut [u8],
-    output: Output,
-    text: &mut [u8; 65536],
-    state: State,
-) -> State {
-    let room = fill(out, output.size, output.fill);
+pub fn print_keys(text: &mut [u8; 65536], end: usize, keys: [u8; 240]) -> usize {
+    print::bytes(text, end, &keys, b'\n')
+}
+
+// show
+pub fn show(text: &mut [u8; 65536], state: State) -> State {
     let session = state.session;
-    let fed = session.feed(input, bits, &mut out[..room], output.place);
-    let end = print_fed(text, state.end, fed, first(out, room));
-    let next = fed.session;
-    state.with_session(next, end)
-}
-
-// feed BITS OUTLEN PLACE FILL INPUT
-pub fn feed(
-    line: &[u8],
-    input: &mut [u8],
-    out: &mut [u8],
-    text: &mut [u8; 65536],
-    state: State,
-) -> State {
-    let TextWords::Given {
-        bits,
-        output,
-        count,
-    } = text_words(line, 1, input)
-    else {
-        return bad(state, text);
-    };
-    feed_into(first(input, count), bits, out, output, text, state)
+    let keys = session.keys;
+    let mut at = print_settings(text, state.end, session);
+    at = print_progress(text, at, session);
+    state.with_end(print_keys(text, at, keys))
 }
 
 // units COUNT
-pub fn units(line: &[u8], text: &mut [u8; 65536], state: State) -> State {
-    let Number::Value(count) = decimal(word(line, 1)) else {
-        return bad(state, text);
-    };
+pub fn units(words: Words, text: &mut [u8; 65536], state: State) -> State {
     let mut session = state.session;
-    session.units = count as u64;
+    session.units = words.number(1) as u64;
     let end = print::number(text, state.end, session.units, b'\n');
-    state.with_session(session, end)
+    state.with_session(session).with_end(end)
 }
 
 // The older release's session with these parts, and so many units.
@@ -169,26 +151,9 @@ fn older(session: Session, units: u32) -> Session32 {
 pub fn carry(text: &mut [u8; 65536], state: State) -> State {
     let session = state.session;
     if session.units > u32::MAX as u64 {
-        return bad(state, text);
+        return state.bad(text);
     }
     let carried = older(session, session.units as u32).carried();
     let end = print::number(text, state.end, carried.units, b'\n');
-    state.with_session(carried, end)
-}
-
-// forecast MODE N BITS
-pub fn forecast(line: &[u8], text: &mut [u8; 65536], end: usize) -> usize {
-    let ModeWord::Named(mode) = mode_word(word(line, 1)) else {
-        return print::bad(text, end);
-    };
-    let Number::Value(n) = decimal(word(line, 2)) else {
-        return print::bad(text, end);
-    };
-    let Number::Value(bits) = decimal(word(line, 3)) else {
-        return print::bad(text, end);
-    };
-    let cost = forecast::forecast(mode, n, bits);
-    let mut at = print::number(text, end, cost.number as u64, b' ');
-    at = print::number(text, at, cost.bytes as u64, b' ');
-    print::number(text, at, cost.runs as u64, b'\n')
+    state.with_session(carried).with_end(end)
 }

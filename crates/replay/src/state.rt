@@ -2,6 +2,7 @@
 use modes::Session;
 use rules::Direction;
 use rules::Mode;
+use script::print;
 
 // `kept` is the session that `alike` compares with. `len` bytes of the present line are gathered, and `end` bytes of output
 // wait to be written. `stop` says that the input has ended.
@@ -27,26 +28,14 @@ impl State {
         }
     }
 
-    pub fn with_session(self, session: Session, end: usize) -> State {
-        let kept = self.kept;
-        State {
-            session,
-            kept,
-            len: self.len,
-            end,
-            stop: self.stop,
-        }
+    pub fn with_session(mut self, session: Session) -> State {
+        self.session = session;
+        self
     }
 
-    pub fn with_kept(self, kept: Session, end: usize) -> State {
-        let session = self.session;
-        State {
-            session,
-            kept,
-            len: self.len,
-            end,
-            stop: self.stop,
-        }
+    pub fn with_kept(mut self, kept: Session) -> State {
+        self.kept = kept;
+        self
     }
 
     pub fn with_end(mut self, end: usize) -> State {
@@ -56,6 +45,16 @@ impl State {
 
     pub fn with_len(mut self, len: usize) -> State {
         self.len = len;
+        self
+    }
+
+    // The answer to a line that is of no command's form.
+    pub fn bad(self, text: &mut [u8; 65536]) -> State {
+        self.with_end(print::bad(text, self.end))
+    }
+
+    pub fn flushed(mut self, text: &[u8; 65536]) -> State {
+        self.end = print::flush(text, self.end);
         self
     }
 

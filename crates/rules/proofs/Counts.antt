@@ -2,7 +2,7 @@
 use Prim.Native.Nat.{ℕ, suc, _+_, _-_, _*_, _/_, _%_, _≤_, _<_}
 use mathlib.Core.Path.{_≡_, sym, ap, _∙_}
 use mathlib.Core.Logic.{_↔_}
-use native.Mathlib.Nat.{le-div-iff-mul-le, lt-div-mul-add, mul-add-div-right, div-add-mod', div-eq-of-lt, div-eq-of-lt-le, add-assoc, add-zero, zero-mul}
+use native.Mathlib.Nat.{mul-le-mul-left, div-lt-iff-lt-mul, le-div-iff-mul-le, lt-div-mul-add, mul-add-div-right, div-add-mod', div-eq-of-lt, div-eq-of-lt-le, add-assoc, add-zero, zero-mul}
 use native.Mathlib.Omega.{arith}
 use Rattle.rules.specs.Rules.{unitsIn}
 
@@ -24,6 +24,14 @@ whole-there b t pos h = unit-there b t pos .1 (omega arith)
 pub units-cover : {n : ℕ} (b : ℕ) → 0 < n → b ≤ unitsIn n b * n
 unfolding unitsIn
 units-cover {n} b pos = omega (arith, lt-div-mul-add {a = b + (n - 1)} pos)
+
+-- A text has no more units than bits.
+pub units-few : {n : ℕ} (b : ℕ) → 0 < n → unitsIn n b ≤ b
+unfolding unitsIn
+units-few {n} b pos =
+    let long : b * 1 ≤ b * n = mul-le-mul-left b pos in
+    let below : unitsIn n b < suc b = div-lt-iff-lt-mul pos .1 (omega arith) in
+    omega arith
 
 -- Whole units in front count by themselves.
 pub units-add : {n : ℕ} (k b : ℕ) → 0 < n → unitsIn n (k * n + b) ≡ k + unitsIn n b

@@ -1,9 +1,5 @@
-// What the programs print: a line is a label, numbers, bytes in hexadecimal, its end.
+// What the programs that are timed print: a line is numbers, bytes in hexadecimal, its end.
 use libc::STDOUT_FILENO;
-
-pub fn label(text: &[u8]) {
-    io::write_all(STDOUT_FILENO, text);
-}
 
 pub fn number(n: u64) {
     io::write_all(STDOUT_FILENO, b" ");
@@ -21,19 +17,6 @@ pub fn front(b: &[u8], count: usize) {
         io::print_hex(STDOUT_FILENO, b[i] as u64, 2);
         i += 1;
     }
-}
-
-pub fn bytes(b: &[u8]) {
-    front(b, b.len());
-}
-
-pub fn byte(b: u8) {
-    io::write_all(STDOUT_FILENO, b" ");
-    io::print_hex(STDOUT_FILENO, b as u64, 2);
-}
-
-pub fn block(b: [u8; 16]) {
-    bytes(&b);
 }
 
 pub fn end() {

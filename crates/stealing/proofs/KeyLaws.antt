@@ -10,11 +10,9 @@ use lib.Seq.{length-take-le}
 use Rattle.bits.specs.Texts.{bits, bytesFor, pack}
 use Rattle.bits.specs.Blocks.{Bytes, Block, BlockCipher}
 use Rattle.bits.proofs.Texts.{length-bits, length-pack}
-use Rattle.cipher.specs.Promises.{UndoEachOther}
-use Rattle.cipher.proofs.CipherLaws.{undo-each-other}
-use Rattle.aes.specs.Calls.{keyOk, keyRounds, keyBytes, encrypted, decrypted}
-use Rattle.aes.specs.Promises.{AcceptedExpands}
-use Rattle.aes.proofs.CallLaws.{accepted-expands}
+use Rattle.aes.specs.Calls.{keyOk, encrypted, decrypted}
+use Rattle.aes.specs.Promises.{KeyGivesCipher}
+use Rattle.aes.proofs.CallLaws.{key-gives-cipher}
 use Rattle.rules.specs.declared.Mode.the-variants.{Cbc}
 use Rattle.rules.specs.declared.Direction.{Direction}
 use Rattle.questions.specs.Questions.{ivOk}
@@ -29,13 +27,9 @@ pub record Keyed (key iv : List ℕ) : Type 0 where
   pub block : Block iv
 
 pub keyed : {key iv : List ℕ} → Bytes key → Bytes iv → keyOk key ≡ true → ivOk Cbc iv ≡ true → Keyed key iv
-unfolding AcceptedExpands UndoEachOther ivOk encrypted decrypted
+unfolding KeyGivesCipher ivOk
 keyed {key} {iv} hk hi key-yes iv-yes =
-    let expands = accepted-expands key hk key-yes in
-    record {
-      ciphers = undo-each-other (keyRounds key) (keyBytes key) (expands .rounds) (expands .bytes);
-      block = record { size = eqb-true (length iv) 16 iv-yes; bytes = hi };
-    }
+    record { ciphers = key-gives-cipher key hk key-yes; block = record { size = eqb-true (length iv) 16 iv-yes; bytes = hi } }
 
 pub length-fed : (input : List ℕ) (count : ℕ) → count ≤ 8 * length input → length (fedText input count) ≡ count
 unfolding fedText

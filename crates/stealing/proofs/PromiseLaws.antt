@@ -1,11 +1,14 @@
 -- What the calls promise: refused they change nothing; accepted they write the message, which the other call gives back. Assumes nothing.
-use Prim.Native.Nat.{ℕ, _<_}
+use Prim.Native.Nat.{ℕ, _+_, _*_, _≤_, _<_}
 use mathlib.Core.Path.{_≡_, sym, ap, _∙_}
 use mathlib.Core.Bool.{Bool}
 use mathlib.Core.List.{List}
+use native.Mathlib.Omega.{arith}
 use borrow.Author.Tests.{eq-eqb, ne-eqb}
-use lib.ListN.{length, drop}
+use lib.ListN.{length, drop, length-take}
+use Rattle.bits.specs.Texts.{bytesFor}
 use Rattle.bits.specs.Blocks.{Bytes}
+use Rattle.bits.proofs.Texts.{length-bits}
 use Rattle.aes.specs.Calls.{encrypted, decrypted}
 use Rattle.rules.specs.declared.Direction.{Direction}
 use Rattle.rules.specs.declared.Direction.the-variants.{Decrypt}
@@ -14,16 +17,22 @@ use Rattle.modes.specs.Sessions.{fedText, written}
 use Rattle.modes.proofs.WrittenLaws.{written-before, written-behind, written-text, written-size}
 use Rattle.stealing.specs.Stealing.{stolenText}
 use Rattle.stealing.specs.Calls.{stealNumber, StolenBy}
-use Rattle.stealing.specs.Promises.{StealingUndone, StealingRecovers, StealRefusedUnchanged, ExactlyTheMessage, StealAcceptedExact, MessageUndone, Message, sent, received, MessagesRecover}
+use Rattle.stealing.specs.Promises.{StealingUndone, StealingRecovers, StealRefusedUnchanged, ExactlyTheMessage, StealAcceptedExact, Acceptable, StealAccepts, MessageUndone, Message, sent, received, MessagesRecover}
 use Rattle.stealing.proofs.TextLaws.UndoLaws.{stealing-undone}
 use Rattle.stealing.proofs.TextLaws.RecoveryLaws.{stealing-recovers}
 use Rattle.stealing.proofs.KeyLaws.{Keyed, keyed, fed-long, stolen-length}
 use Rattle.stealing.proofs.NumberLaws.{StealTaken, steal-taken}
+use Rattle.stealing.proofs.AcceptLaws.{steal-accepts}
 
 pub steal-refused-unchanged : StealRefusedUnchanged
 unfolding StealRefusedUnchanged
 steal-refused-unchanged dir key iv input count out place number after stolen refused =
     rw (ne-eqb (stealNumber key iv (length input) count (length out) place) 0 (λ e. refused (stolen .answer ∙ e))) at (stolen .output)
+
+-- An input with so many bits of text has the bytes for them.
+fed-there : (input : List ℕ) (count : ℕ) → length (fedText input count) ≡ count → count ≤ 8 * length input
+unfolding fedText
+fed-there input count e = omega (arith, length-bits input, rw length-take at e)
 
 -- ---- an accepted call
 
@@ -66,14 +75,32 @@ module _ {dir : Direction} {key iv input : List ℕ} {count : ℕ} {out : List �
   undone =
       rw (exactly .text) (stealing-undone (encrypted key) (decrypted key) dir iv (fedText input count) (under .ciphers) (under .block) message-long .undone)
 
+  -- the other call, of an input that holds what was written: it is asked for room, and for nothing else that is not there
+  other-takes : (input′ out′ : List ℕ) (place′ : ℕ) → fedText input′ count ≡ fedText (drop place after) count → place′ + bytesFor count ≤ length out′
+      → Acceptable key iv input′ count out′ place′
+  unfolding StealAccepts
+  other-takes input′ out′ place′ same enough =
+      let first = steal-accepts dir key iv input count out place number after stolen .0 accepted in
+      record {
+        key-length = first .key-length;
+        iv-length = first .iv-length;
+        whole-bytes = first .whole-bytes;
+        more-than-16 = first .more-than-16;
+        at-most = first .at-most;
+        there = fed-there input′ count (ap length (same ∙ exactly .text) ∙ text-length);
+        room = enough;
+      }
+
 pub steal-accepted-exact : StealAcceptedExact
 unfolding StealAcceptedExact
 steal-accepted-exact dir key iv input count out place number after hk hi stolen accepted = exactly hk hi stolen accepted
 
 pub message-undone : MessageUndone
-unfolding MessageUndone
-message-undone dir key iv input count out place number after input′ out′ place′ number′ after′ hk hi one accepted two accepted′ same =
-    exactly hk hi two accepted′ .text ∙ ap (stolenText (encrypted key) (decrypted key) (other dir) iv) same ∙ undone hk hi one accepted
+unfolding MessageUndone StealAccepts
+message-undone dir key iv input count out place number after input′ out′ place′ number′ after′ hk hi one accepted two same room =
+    let asks = other-takes hk hi one accepted input′ out′ place′ same (omega arith) in
+    let zero = steal-accepts (other dir) key iv input′ count out′ place′ number′ after′ two .1 asks in
+    (zero, exactly hk hi two zero .text ∙ ap (stolenText (encrypted key) (decrypted key) (other dir) iv) same ∙ undone hk hi one accepted)
 
 -- ---- two messages
 

@@ -15,7 +15,6 @@ use Rattle.rules.specs.declared.Direction.the-variants.{Encrypt, Decrypt}
 use Rattle.rules.specs.Rules.{unitAt, unitsIn}
 use Rattle.rules.specs.Standard.{standard}
 use Rattle.rules.specs.Promises.{other, CommonRun}
-use Rattle.questions.specs.Questions.{maxBits}
 use Rattle.modes.specs.Sessions.{fedText}
 use Rattle.stealing.specs.Stealing.{stolenText}
 use Rattle.stealing.specs.Calls.{StolenBy}
@@ -97,7 +96,7 @@ pub record Acceptable (key iv input : List ℕ) (count : ℕ) (out : List ℕ) (
   pub iv-length : length iv ≡ 16
   pub whole-bytes : count % 8 ≡ 0
   pub more-than-16 : 128 < count
-  pub at-most : count ≤ maxBits
+  pub at-most : count ≤ 524288
   pub there : count ≤ 8 * length input
   pub room : place + bytesFor count ≤ length out
 
@@ -106,14 +105,15 @@ StealAccepts =
     (dir : Direction) (key iv input : List ℕ) (count : ℕ) (out : List ℕ) (place number : ℕ) (after : List ℕ)
     → StolenBy dir key iv input count out place number after → (number ≡ 0) ↔ Acceptable key iv input count out place
 
--- What one call wrote is given back by the other, under the same key and IV.
+-- What one call wrote the other takes, under the same key and IV, wherever there is room for it, and gives the message back.
 unfoldable pub MessageUndone : Type 0
 MessageUndone =
     (dir : Direction) (key iv input : List ℕ) (count : ℕ) (out : List ℕ) (place number : ℕ) (after : List ℕ)
     (input′ out′ : List ℕ) (place′ number′ : ℕ) (after′ : List ℕ) → Bytes key → Bytes iv
     → StolenBy dir key iv input count out place number after → number ≡ 0
-    → StolenBy (other dir) key iv input′ count out′ place′ number′ after′ → number′ ≡ 0
-    → fedText input′ count ≡ fedText (drop place after) count → fedText (drop place′ after′) count ≡ fedText input count
+    → StolenBy (other dir) key iv input′ count out′ place′ number′ after′
+    → fedText input′ count ≡ fedText (drop place after) count → place′ + bytesFor count ≤ length out′
+    → (number′ ≡ 0) × (fedText (drop place′ after′) count ≡ fedText input count)
 
 -- A message that a call sent, by encrypting it, or received, by decrypting it: its ciphertext x and its plaintext p.
 pub data Message (key iv : List ℕ) : List Bool → List Bool → Type 0 where

@@ -27,7 +27,7 @@ use Rattle.rules.proofs.Units.{UnitLength}
 use Rattle.rules.proofs.AnyCounter.{nextOf-any}
 use Rattle.units.specs.declared.unit.Ran.{Ran}
 use Rattle.units.specs.declared.unit.Step.{Step}
-use Rattle.units.specs.Turns.{decrypting, runsDec, Runs, Counted, Turned, unitSizeOk}
+use Rattle.units.specs.Turns.{decrypting, runsDec, Runs, Counted, outBlock, Turned, unitSizeOk}
 
 -- ---- a whole block
 
@@ -64,58 +64,61 @@ abbrev stepBy : Ran → List ℕ → List ℕ → Step
 stepBy ran out after = record { out = out; register = after; runs = ran .runs }
 
 module _ (f : List ℕ → List ℕ) {register unit : List ℕ} (hr : Block register) (hu : Block unit) {ran : Ran} (hb : Block (ran .block)) where
-  by-run : {block : List ℕ} {mode : Mode} {dir : Direction} {m size : ℕ} {out after : List ℕ} → Counted f block ran
+  by-run : {block : List ℕ} {mode : Mode} {dir : Direction} {m size : ℕ} {out after : List ℕ} → Counted f block ran → out ≡ outBlock f mode dir register unit
       → take size (bits out) ≡ outOf f f mode dir register (take size (bits unit)) → after ≡ nextOf f f mode dir m register (take size (bits unit))
       → Turned f mode dir m register unit size (stepBy ran out after)
-  by-run run text next = record { out-bits = text; register-after = next; one-run = run .one-run }
+  by-run run all text next = record { out-bits = text; out-block = all; register-after = next; one-run = run .one-run }
 
   pub ecb-turned : (dir : Direction) → Counted f unit ran → Turned f Ecb dir 128 register unit 128 (stepBy ran (ran .block) register)
-  unfolding outOf nextOf cipher plain next
-  ecb-turned Encrypt run = by-run run (whole hb ∙ ap bits (run .made ∙ ap f (sym (packed hu)))) refl
-  ecb-turned Decrypt run = by-run run (whole hb ∙ ap bits (run .made ∙ ap f (sym (packed hu)))) refl
+  unfolding outBlock outOf nextOf cipher plain next
+  ecb-turned Encrypt run = by-run run (run .made) (whole hb ∙ ap bits (run .made ∙ ap f (sym (packed hu)))) refl
+  ecb-turned Decrypt run = by-run run (run .made) (whole hb ∙ ap bits (run .made ∙ ap f (sym (packed hu)))) refl
 
   pub cbc-encrypted : {added : List ℕ} → added ≡ xorBytes unit register → Counted f added ran
       → Turned f Cbc Encrypt 128 register unit 128 (stepBy ran (ran .block) (ran .block))
-  unfolding outOf nextOf cipher next
+  unfolding outBlock outOf nextOf cipher next
   cbc-encrypted e run =
       let same : ran .block ≡ f (xorBytes (pack (take 128 (bits unit))) register) = run .made ∙ ap f (e ∙ ap (λ u. xorBytes u register) (sym (packed hu))) in
-      by-run run (whole hb ∙ ap bits same) (sym (block-pack-bits hb) ∙ ap (λ b. pack (bits b)) same)
+      by-run run (run .made ∙ ap f e) (whole hb ∙ ap bits same) (sym (block-pack-bits hb) ∙ ap (λ b. pack (bits b)) same)
 
   pub cbc-decrypted : {out : List ℕ} → Block out → Counted f unit ran → out ≡ xorBytes (ran .block) register
       → Turned f Cbc Decrypt 128 register unit 128 (stepBy ran out unit)
-  unfolding outOf nextOf plain next
-  cbc-decrypted ho run e = by-run run (whole ho ∙ ap bits (e ∙ ap (λ b. xorBytes b register) (run .made ∙ ap f (sym (packed hu))))) (sym (packed hu))
+  unfolding outBlock outOf nextOf plain next
+  cbc-decrypted ho run e = by-run run (e ∙ ap (λ b. xorBytes b register) (run .made)) (whole ho ∙ ap bits (e ∙ ap (λ b. xorBytes b register) (run .made ∙ ap f (sym (packed hu))))) (sym (packed hu))
 
   -- in CFB, OFB and CTR the first bits of the register's block are added
   module _ (size : ℕ) (le : size ≤ 128) (run : Counted f register ran) {out : List ℕ} (g : out ≡ xorBytes unit (ran .block)) where
     text : take size (bits out) ≡ mask (take size (bits unit)) (f register)
     text = ap (λ b. take size (bits b)) g ∙ masked size hu hb le ∙ ap (mask (take size (bits unit))) (run .made)
 
+    all-bits : out ≡ xorBytes unit (f register)
+    all-bits = g ∙ ap (xorBytes unit) (run .made)
+
     pub cfb-encrypted : {after : List ℕ} → Block out → after ≡ packTo 16 (drop size (bits register) ++ take size (bits out))
         → Turned f Cfb Encrypt 128 register unit size (stepBy ran out after)
-    unfolding outOf nextOf cipher next
-    cfb-encrypted ho h = by-run run text (h ∙ shifted size hr ho le ∙ ap (λ c. pack (shiftIn (bits register) c)) text)
+    unfolding outBlock outOf nextOf cipher next
+    cfb-encrypted ho h = by-run run all-bits text (h ∙ shifted size hr ho le ∙ ap (λ c. pack (shiftIn (bits register) c)) text)
 
     pub cfb-decrypted : {after : List ℕ} → after ≡ packTo 16 (drop size (bits register) ++ take size (bits unit))
         → Turned f Cfb Decrypt 128 register unit size (stepBy ran out after)
-    unfolding outOf nextOf plain next
-    cfb-decrypted h = by-run run text (h ∙ shifted size hr hu le)
+    unfolding outBlock outOf nextOf plain next
+    cfb-decrypted h = by-run run all-bits text (h ∙ shifted size hr hu le)
 
     pub ofb-turned : (dir : Direction) → Turned f Ofb dir 128 register unit size (stepBy ran out (ran .block))
-    unfolding outOf nextOf cipher plain next
-    ofb-turned Encrypt = by-run run text (run .made)
-    ofb-turned Decrypt = by-run run text (run .made)
+    unfolding outBlock outOf nextOf cipher plain next
+    ofb-turned Encrypt = by-run run all-bits text (run .made)
+    ofb-turned Decrypt = by-run run all-bits text (run .made)
 
     pub ctr-turned : (dir : Direction) {m : ℕ} {after : List ℕ} → after ≡ increment m register → Turned f Ctr dir m register unit size (stepBy ran out after)
-    unfolding outOf nextOf cipher plain next
-    ctr-turned Encrypt h = by-run run text h
-    ctr-turned Decrypt h = by-run run text h
+    unfolding outBlock outOf nextOf cipher plain next
+    ctr-turned Encrypt h = by-run run all-bits text h
+    ctr-turned Decrypt h = by-run run all-bits text h
 
 -- Only CTR looks at m.
 pub any-counter : {f : List ℕ → List ℕ} {mode : Mode} {dir : Direction} {m m′ : ℕ} {register unit : List ℕ} {size : ℕ} {r : Step} → (mode ≡ Ctr → m ≡ m′)
     → Turned f mode dir m register unit size r → Turned f mode dir m′ register unit size r
 any-counter {f} {mode} {dir} {register = register} free t =
-    record { out-bits = t .out-bits; register-after = t .register-after ∙ nextOf-any f f mode free dir register _; one-run = t .one-run }
+    record { out-bits = t .out-bits; out-block = t .out-block; register-after = t .register-after ∙ nextOf-any f f mode free dir register _; one-run = t .one-run }
 
 -- ---- a unit's bits, by the mode
 

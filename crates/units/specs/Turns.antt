@@ -5,6 +5,7 @@ use mathlib.Core.Bool.{Bool, true, false, cond}
 use mathlib.Core.List.{List}
 use lib.Dec.{eqb, leb}
 use lib.ListN.{take}
+use Rattle.bits.specs.Xor.{xorBytes}
 use Rattle.bits.specs.Texts.{bits}
 use Rattle.bits.specs.Blocks.{Block}
 use Rattle.rules.specs.declared.Mode.{Mode}
@@ -44,8 +45,19 @@ pub record Counted (f : List ℕ → List ℕ) (block : List ℕ) (r : Ran) : Ty
   pub made : r .block ≡ f block
   pub one-run : r .runs ≡ 1
 
+-- The whole block that a unit is worked to. Its first bits, as many as the unit has, are the mode's rule; in CFB, OFB and CTR those past a
+-- short unit are XOR of what stands there and of the block that was run.
+unfoldable pub outBlock : (List ℕ → List ℕ) → Mode → Direction → List ℕ → List ℕ → List ℕ
+outBlock f Ecb dir register unit = f unit
+outBlock f Cbc Encrypt register unit = f (xorBytes unit register)
+outBlock f Cbc Decrypt register unit = xorBytes (f unit) register
+outBlock f Cfb dir register unit = xorBytes unit (f register)
+outBlock f Ofb dir register unit = xorBytes unit (f register)
+outBlock f Ctr dir register unit = xorBytes unit (f register)
+
 -- A unit by the block function f, whichever of the two it is, in one run.
 pub record Turned (f : List ℕ → List ℕ) (mode : Mode) (dir : Direction) (m : ℕ) (register unit : List ℕ) (size : ℕ) (r : Step) : Type 0 where
   pub out-bits : take size (bits (r .out)) ≡ outOf f f mode dir register (take size (bits unit))
+  pub out-block : r .out ≡ outBlock f mode dir register unit
   pub register-after : r .register ≡ nextOf f f mode dir m register (take size (bits unit))
   pub one-run : r .runs ≡ 1

@@ -61,6 +61,6 @@ pub stealing-recovers : StealingRecovers
 unfolding StealingRecovers
 stealing-recovers enc dec v w x y ciphers bv bw lx ly =
     record {
-      after-loss = λ i j k run t some. after-loss ciphers bv bw lx ly i j k run t (omega arith);
-      before-loss = before-loss ciphers bv bw lx ly;
+      after-loss = λ i j k run t some inside hx hy. after-loss ciphers bv bw lx ly i j k run t (omega arith) inside (omega arith) (omega arith);
+      before-loss = λ same k run t inside hx hy. before-loss ciphers bv bw lx ly same k run t inside (omega arith) (omega arith);
     }

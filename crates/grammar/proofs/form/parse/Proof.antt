@@ -14,7 +14,7 @@ up-to-requires c κs = search needs
 
 returns : tie.Need-returns
 unfolding request
-returns c = record { form = rw (cut-none 10 (c .before .before .before .args .input .now) _ (c .before .up-to .ensures) (c .if1 .taken)); fits = tt }
+returns c = record { form = rw (cut-none 10 (c .before .before .before .args .input .now) _ (c .before .up-to .ensures) (c .if1 .taken)); fits = tt; places = tt }
 
 slice-aggregate-first-line : tie.Need-slice-aggregate-first-line
 slice-aggregate-first-line c = sym (length-take-le _ _ (le-of-lt (c .before .if1 .left)))
@@ -33,7 +33,7 @@ unfolding request
 returns-2 c = let at = c .before .before .before .before in
     let s = at .before .before .before .args .input .now in
     let no = sym (c .before .before .first-line .ensures) ∙ ap firstIn (c .enum-told .given .1) in
-    record { form = rw (cut-some 10 s _ (at .before .up-to .ensures) (at .if1 .left), no); fits = tt }
+    record { form = rw (cut-some 10 s _ (at .before .up-to .ensures) (at .if1 .left), no); fits = tt; places = tt }
 
 add-behind-first : tie.Need-add-behind-first
 add-behind-first c = search needs
@@ -47,7 +47,11 @@ returns-3 c = let known = c .before .before in
     let at = known .before .before .before .before in
     let s = at .before .before .before .args .input .now in
     let first = sym (known .before .before .first-line .ensures) ∙ ap firstIn (known .mode .given .1) in
-    record { form = rw (cut-some 10 s _ (at .before .up-to .ensures) (at .if1 .left), first) (c .behind-first .ensures .form); fits = c .behind-first .ensures .fits }
+    record {
+      form = rw (cut-some 10 s _ (at .before .up-to .ensures) (at .if1 .left), first) (c .behind-first .ensures .form);
+      fits = c .behind-first .ensures .fits;
+      places = rw (at .before .up-to .ensures) at (c .behind-first .ensures .places);
+    }
 
 pub parse-spec : {M : Type 1} → statement M
 parse-spec =

@@ -20,7 +20,7 @@ work-units-requires c κs =
     let made = c .before .before .before .before .before in
     let dec = made .before .before in
     let s = dec .before .before .before .before in
-    (s .pre .0, record { rounds-ok = s .pre .1; keys-bytes = keys-are s; runs = runs-prepared (made .prepare .ensures) (dec .runs-dec .ensures) })
+    (s .pre .0, record { rounds-ok = s .pre .1; keys-bytes = keys-are s; runs = runs-prepared (made .prepare .ensures .block-function) (dec .runs-dec .ensures) })
 
 same-length : tie.Need-same-length
 same-length c = search needs

@@ -1,23 +1,23 @@
--- The invariant: the words so far are in the order of decryption (`FillLaws`). Assumes nothing.
+-- The invariant: the words so far are in the order of decryption, and the others are zero (`FillLaws`). Assumes nothing.
 use mathlib.Core.Path.{_≡_, refl}
 use Prim.Native.Nat.{_+_, _-_, _*_, _≤_}
 use native.Mathlib.Omega.{arith}
 use lib.ListN.{length, length-set}
 use Rattle.cipher.proofs.RoundLaws.{rounds-bounds}
-use Rattle.prepared.specs.Prepared.{Holds, reversedRule}
-use Rattle.prepared.proofs.FillLaws.{held-none, held-next, held-all}
+use Rattle.prepared.specs.Prepared.{Holds, reversedRule, zeroFrom}
+use Rattle.prepared.proofs.FillLaws.{zero-bytes, zero-next, zero-all}
 use Rattle.prepared.proofs.keys.reversed_words.Statement.{statement}
 use Rattle.prepared.proofs.keys.reversed_words.Tie as tie
 
 abbrev Inv-loop : tie.InvT-loop
-Inv-loop rounds keys words₀ i₀ words i =
-    (i ≤ 4 * rounds + 4) × (rounds ≤ 14) × (length words ≡ 60) × Holds i (reversedRule rounds keys) words
+Inv-loop rounds keys reversed₀ i₀ reversed i =
+    (i ≤ 4 * rounds + 4) × (rounds ≤ 14) × (length reversed ≡ 60) × Holds 60 (zeroFrom i (reversedRule rounds keys)) reversed
 
 abbrev μ-loop : tie.MeasureT-loop
-μ-loop rounds keys words₀ i₀ words i = 4 * rounds + 4 - i
+μ-loop rounds keys reversed₀ i₀ reversed i = 4 * rounds + 4 - i
 
 loop-holds : tie.Need-loop-holds Inv-loop μ-loop
-loop-holds c = let b = rounds-bounds (c .args .rounds) (c .pre) in (omega arith, omega arith, refl, held-none _ _)
+loop-holds c = let b = rounds-bounds (c .args .rounds) (c .pre) in (omega arith, omega arith, refl, zero-bytes 60 _)
 
 mul-loop : tie.Need-mul-loop Inv-loop μ-loop
 mul-loop c = omega arith
@@ -40,11 +40,11 @@ add-key-word c = omega arith
 key-word-requires : tie.Need-key-word-requires Inv-loop μ-loop
 key-word-requires c κs = omega arith
 
-mul-words : tie.Need-mul-words Inv-loop μ-loop
-mul-words c = omega arith
+mul-reversed : tie.Need-mul-reversed Inv-loop μ-loop
+mul-reversed c = omega arith
 
-array-write-words : tie.Need-array-write-words Inv-loop μ-loop
-array-write-words c = omega arith
+array-write-reversed : tie.Need-array-write-reversed Inv-loop μ-loop
+array-write-reversed c = omega arith
 
 add-i : tie.Need-add-i Inv-loop μ-loop
 add-i c = omega arith
@@ -59,11 +59,11 @@ loop-again c =
       omega arith,
       omega arith,
       simp length-set (l .inv .2),
-      held-next (l .words) (l .i) _ (omega arith) _ (l .inv .3) (c .key-word .ensures),
+      zero-next (l .reversed) (l .i) _ (omega arith) 60 _ (l .inv .3) (c .key-word .ensures),
     )
 
 returns : tie.Need-returns Inv-loop μ-loop
-returns c = let l = c .before .loop in held-all (omega arith) (l .inv .3)
+returns c = let l = c .before .loop in zero-all (l .i) _ (omega arith) (l .inv .3)
 
 pub reversed-words-spec : {M : Type 1} → statement M
 reversed-words-spec =
@@ -79,8 +79,8 @@ reversed-words-spec =
     sub-key-word-2
     add-key-word
     key-word-requires
-    mul-words
-    array-write-words
+    mul-reversed
+    array-write-reversed
     add-i
     loop-less
     loop-again

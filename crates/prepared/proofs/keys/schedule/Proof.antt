@@ -18,7 +18,7 @@ forward-words-requires : tie.Need-forward-words-requires
 forward-words-requires c κs = search needs
 
 returns : tie.Need-returns
-returns c = scheduled-backward _ _ _ (c .before .before .before .before .if1 .taken) (c .before .reversed-words .ensures) (c .unmix-middle .ensures)
+returns c = scheduled-backward _ _ _ (c .before .before .before .before .if1 .taken) (sym (c .before .before .before .rounds-ok .ensures) ∙ c .before .before .if2 .taken) (c .before .reversed-words .ensures) (c .unmix-middle .ensures)
 
 returns-2 : tie.Need-returns-2
 returns-2 c = scheduled-refused _ _ _ (c .before .before .if1 .taken) (sym (c .before .rounds-ok .ensures) ∙ c .if2 .left)

@@ -1,5 +1,6 @@
--- The three parts together (`PreparedLaws`). Assumes nothing.
-use Rattle.prepared.proofs.PreparedLaws.{prepared-for}
+-- The parts together (`PreparedLaws`). Assumes nothing.
+use mathlib.Core.Path.{refl}
+use Rattle.prepared.proofs.PreparedLaws.{prepared-by}
 use borrow.Author.Needs.{needs}
 use Rattle.prepared.proofs.preparation.prepare.Statement.{statement}
 use Rattle.prepared.proofs.preparation.prepare.Tie as tie
@@ -14,7 +15,7 @@ schedule-requires : tie.Need-schedule-requires
 schedule-requires c κs = search needs
 
 returns : tie.Need-returns
-returns c = prepared-for _ _ _ (c .before .before .before .substitution .ensures) (c .before .fill-table .ensures) (c .schedule .ensures)
+returns c = prepared-by _ _ _ refl (c .before .before .before .substitution .ensures) (c .before .fill-table .ensures) (c .schedule .ensures)
 
 pub prepare-spec : {M : Type 1} → statement M
 prepare-spec =

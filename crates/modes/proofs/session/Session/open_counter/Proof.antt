@@ -1,6 +1,6 @@
 -- The questions in their order (`AnswerLaws`); the register is the IV's bits as a block. Assumes nothing.
 use mathlib.Core.Path.{_≡_, sym, _∙_}
-use mathlib.Core.Bool.{true}
+use mathlib.Core.Bool.{true, false}
 use native.Mathlib.Omega.{arith}
 use borrow.Author.Tests.{not-true, not-false}
 use Rattle.bits.specs.Blocks.{Bytes}
@@ -13,6 +13,11 @@ use Rattle.modes.proofs.WorkLaws.{start-window}
 use borrow.Author.Needs.{needs}
 use Rattle.modes.proofs.session.Session.open_counter.Statement.{statement}
 use Rattle.modes.proofs.session.Session.open_counter.Tie as tie
+
+key-bad : (c : tie.After-refused) → keyOk (c .before .before .before .before .before .before .args .key .now) ≡ false
+key-bad c =
+    let e = c .before .before .before in
+    key-no _ (λ z. omega (arith, c .before .if1 .taken, e .expand .ensures .answer, z))
 
 key-ok : (c : tie.Else1) → keyOk (c .before .before .before .before .before .args .key .now) ≡ true
 key-ok c = key-yes _ (sym (c .before .before .expand .ensures .answer) ∙ c .if1 .left)
@@ -30,9 +35,7 @@ refused-requires : tie.Need-refused-requires
 refused-requires c κs = search needs
 
 returns : tie.Need-returns
-returns c =
-    let e = c .before .before .before in
-    refused-1 _ _ _ _ _ _ (key-no _ (λ z. c .before .if1 .taken (e .expand .ensures .answer ∙ z))) (c .refused .ensures)
+returns c = refused-1 _ _ _ _ _ _ (key-bad c) (c .refused .ensures)
 
 iv-ok-requires : tie.Need-iv-ok-requires
 iv-ok-requires c κs = search needs
