@@ -1,4 +1,4 @@
-// From a counter block back to its place (request 06), through the program replay: blocks that were counted up to, the registers
+// From a counter block back to its number in the message (request 06), through the program replay: blocks that were counted up to, the registers
 // of sessions, and all arguments against the reference.
 use crate::arguments::{any_direction, any_key, any_m, Feed};
 use crate::counters::{any_iv, counter_block, NO_COUNTER};
@@ -8,7 +8,7 @@ use crate::report::{equal, Outcome, Report};
 use crate::rng::Rng;
 use crate::script::Script;
 
-// For each m: the IVs, and for each of them the places counted to, all of them up to m = 8, and those further on.
+// For each m: the IVs, and for each of them the blocks counted to, all of them up to m = 8, and those further on.
 const IVS: usize = 5;
 const COUNTED: u128 = 256;
 const FURTHER: usize = 12;
@@ -37,7 +37,7 @@ fn place_line(m: usize, iv: Block, block: Block) -> String {
     format!("place {m} {} {}", hex(&iv), hex(&block))
 }
 
-// A line whose number and place are known without the reference.
+// A line whose number and increments are known without the reference.
 fn known(script: &mut Script, m: usize, iv: Block, block: Block, answer: (u8, Block)) -> Outcome {
     let answer = format!("{} {}", answer.0, hex(&answer.1));
     script.known(place_line(m, iv, block), &answer)
@@ -98,7 +98,7 @@ fn counted(rng: &mut Rng) -> Outcome {
     answered(&script, [lines, 0, 0])
 }
 
-// From the IV the printed place leads to the block, by counting where it is near.
+// From the IV the printed increments lead to the block, by counting where it is near.
 fn led_back(rng: &mut Rng) -> Outcome {
     let mut script = Script::new();
     let mut asked = vec![];

@@ -5,14 +5,32 @@ use mathlib.Core.List.{List}
 use mathlib.Core.Logic.{inl, inr, _↔_}
 use Prim.Native.Nat.{ℕ, _+_, _/_}
 use lib.ListN.{length, replicate}
+use Rattle.bits.specs.Blocks.{Bytes}
 use Rattle.cipher.specs.Cipher.{roundsOk}
 use Rattle.cipher.specs.Promises.{UndoEachOther}
-use Rattle.cipher.proofs.TestLaws.{passed}
+use Rattle.bits.proofs.TestLaws.{passed}
 use Rattle.cipher.proofs.CipherLaws.{enc-refused, dec-refused, undo-each-other}
-use Rattle.aes.specs.KeyExpansion.{roundsFor, roundKeys}
+use Rattle.expansion.specs.KeyExpansion.{roundsFor, roundKeys}
 use Rattle.aes.specs.Calls.{keyOk, keyNumber, keyRounds, keyBytes, encrypted, decrypted, Expanded}
 use Rattle.aes.specs.Promises.{AcceptedExpands, KeyGivesCipher, KeyLength, CallsAnswer}
-use Rattle.aes.proofs.KeyLaws.{keyBytes-length, keyBytes-bytes}
+use Rattle.expansion.proofs.Filled.{zeros-bytes}
+use Rattle.expansion.proofs.KeyLaws.{key-words, roundKeys-bytes, roundKeys-length}
+
+pub keyBytes-bytes : (key : List ℕ) → Bytes key → Bytes (keyBytes key)
+unfolding keyBytes
+keyBytes-bytes key h = go (keyOk key)
+  where
+    go : (b : Bool) → Bytes (cond b (roundKeys key) (replicate 240 0))
+    go true = roundKeys-bytes h
+    go false = zeros-bytes 240
+
+pub keyBytes-length : (key : List ℕ) → length (keyBytes key) ≡ 240
+unfolding keyBytes
+keyBytes-length key = go (keyOk key) refl
+  where
+    go : (b : Bool) → keyOk key ≡ b → length (cond b (roundKeys key) (replicate 240 0)) ≡ 240
+    go true e = roundKeys-length key (key-words key e)
+    go false e = refl
 
 module _ (key : List ℕ) where
   pub key-accepted : {keys : List ℕ} → keyOk key ≡ true → keys ≡ roundKeys key → Expanded key 0 (length key / 4 + 6) keys

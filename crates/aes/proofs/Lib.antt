@@ -1,5 +1,2 @@
--- Laws about the definitions of specs/, a file to a subject.
-pub mod Filled
-pub mod WordLaws
-pub mod KeyLaws
+-- Laws about the definitions of specs/.
 pub mod CallLaws

@@ -1,19 +1,19 @@
 -- What the public calls answer (document 01, "The block cipher" and question 1).
 use Prim.Native.Nat.{ℕ, _/_}
 use mathlib.Core.Path.{_≡_}
-use mathlib.Core.Bool.{Bool, true, cond}
+use mathlib.Core.Bool.{cond}
 use mathlib.Core.List.{List}
-use lib.Dec.{eqb}
 use lib.ListN.{length, replicate}
 use Rattle.cipher.specs.Cipher.{Enc, Dec}
-use Rattle.aes.specs.KeyExpansion.{roundsFor, roundKeys}
+use Rattle.expansion.specs.KeyExpansion.{roundsFor, roundKeys}
+unfoldable pub use Rattle.expansion.specs.KeyExpansion.{keyOk}
 
--- Question 1: is the key 16, 24 or 32 bytes long?
-unfoldable pub keyOk : List ℕ → Bool
-keyOk key = cond (eqb (length key) 16) true (cond (eqb (length key) 24) true (eqb (length key) 32))
+-- The number of question 1.
+abbrev pub badKey : ℕ
+badKey = 1
 
 unfoldable pub keyNumber : List ℕ → ℕ
-keyNumber key = cond (keyOk key) 0 1
+keyNumber key = cond (keyOk key) 0 badKey
 
 -- The rounds of a key, and 0 for a refused one.
 unfoldable pub keyRounds : List ℕ → ℕ

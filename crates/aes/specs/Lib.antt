@@ -1,4 +1,3 @@
--- FIPS 197's key expansion in its own steps and names, and the public calls under a key.
-pub mod KeyExpansion
+-- The public calls under a key, and what is promised of them.
 pub mod Calls
 pub mod Promises

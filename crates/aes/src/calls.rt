@@ -1,6 +1,5 @@
 // The public calls: expand a key, and encrypt or decrypt one block under a key. A key that is not 16, 24 or 32 bytes long is
 // refused with number 1 and zeros.
-use crate::expansion;
 ghost use mathlib.Core.Path.{_≡_};
 ghost use Rattle.cipher.specs.Cipher.{Enc, Dec};
 ghost use Rattle.aes.specs.Calls.{keyOk, encrypted, decrypted, Expanded, BlockAnswer};
@@ -16,7 +15,8 @@ pub struct Answer {
     pub block: [u8; 16],
 }
 
-fn key_ok(key: &[u8]) -> bool
+// Question 1.
+pub fn key_ok(key: &[u8]) -> bool
     ensures { λ r. ⌜ r ≡ keyOk (now (key .entry)) ⌝ }
 {
     let n = key.len();

@@ -1,9 +1,9 @@
-// AES (FIPS 197): key expansion, and the public calls under a key. The crate `cipher` has the block functions.
+// AES (FIPS 197): the public calls under a key. The crate `cipher` has the block functions, `expansion` the round keys.
 mod calls;
-mod expansion;
 
 pub use calls::Answer;
 pub use calls::Schedule;
 pub use calls::decrypt;
 pub use calls::encrypt;
 pub use calls::expand;
+pub use calls::key_ok;

@@ -50,9 +50,9 @@ scaled : (x : ℕ) {q : ℕ} → 0 < q → x * 256 % (q * 256) ≡ x % q * 256
 scaled x h = rw (mod-mul (x * 256) h (zero-lt-suc 255), mul-div-cancel x (zero-lt-suc 255), mul-mod-left) (add-zero _)
 
 -- a byte ff becomes 00, and the 1 goes to the bits above
-pub plusOne-carry : (l y : ℕ) → plusOne (l + 8) (y * 256 + 255) ≡ plusOne l y * 256
+pub plusOne-overflow : (l y : ℕ) → plusOne (l + 8) (y * 256 + 255) ≡ plusOne l y * 256
 unfolding plusOne
-plusOne-carry l y =
+plusOne-overflow l y =
     let sum : y % 2 ^ l * 256 + 255 + 1 ≡ (y % 2 ^ l + 1) * 256 = omega arith in
     lowest l y (omega arith) ∙ rw (sum, scaled (y % 2 ^ l + 1) (pow-pos l)) (omega arith)
 
@@ -62,7 +62,7 @@ plusOne-stop l y b h =
     let low : y % 2 ^ l * 256 + (b + 1) < 2 ^ l * 256 = digits-lt (mod-lt y (pow-pos l)) (omega arith) in
     lowest l y (omega arith) ∙ rw (add-assoc (y % 2 ^ l * 256) b 1, mod-eq-of-lt low) (omega (arith, split y l))
 
--- a byte of which fewer than eight bits count keeps its carry
+-- a byte of which fewer than eight bits count drops its overflow
 pub plusOne-byte : (l y b : ℕ) → l < 8 → plusOne l (y * 256 + b) ≡ y * 256 + plusOne l b
 plusOne-byte l y b h =
     let eight : 8 - l + l ≡ 8 = omega arith in

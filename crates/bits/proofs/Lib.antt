@@ -6,6 +6,7 @@ pub mod Xors
 pub mod Counter
 pub mod Counting
 pub mod Lists
+pub mod TestLaws
 pub mod Arrays
 pub mod Owned
 pub mod Windows
@@ -13,4 +14,3 @@ pub mod Packed
 pub mod Fills
 pub mod Registers
 pub mod Places
-pub mod Carries

@@ -1,4 +1,4 @@
-// Runs each function of `bits` on its edges and prints what it gave. The file `stdout` has what the definitions give; expected.py,
+// Calls each function of `bits` and `counter` at its edges and prints what it gave. The file `stdout` has what the definitions give; expected.py,
 // which shares nothing with the crate, writes it.
 use libc::STDOUT_FILENO;
 ghost use Prim.Native.Nat.{_≤_, _<_};
@@ -117,11 +117,11 @@ const COUNTERS: [usize; 14] = [0, 1, 3, 7, 8, 9, 16, 64, 119, 120, 121, 127, 128
 // A counter that wraps with any m, one that wraps with m up to 123, and one that wraps with m up to 3.
 fn show_increments(m: usize) {
     let mut block = [255u8; 16];
-    show(&bits::increment_block(block, m));
+    show(&counter::increment_block(block, m));
     block[0] = 7;
-    show(&bits::increment_block(block, m));
+    show(&counter::increment_block(block, m));
     block[15] = 7;
-    show(&bits::increment_block(block, m));
+    show(&counter::increment_block(block, m));
 }
 
 fn show_counters() {

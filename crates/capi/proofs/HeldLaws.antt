@@ -5,36 +5,36 @@ use mathlib.Core.Path.{_≡_, refl, sym, _∙_}
 use mathlib.Core.Bool.{Bool}
 use mathlib.Core.List.{List}
 use lib.ListN.{length}
-use borrow.Author.Tests.{le-leb, lt-leb}
+use borrow.Author.Tests.{lt-ltb, le-ltb}
 use Rattle.rules.specs.declared.Mode.{Mode}
-use Rattle.rules.specs.declared.Mode.the-variants.{Ecb, Cbc, Cfb, Ofb, Ctr}
 use Rattle.rules.specs.declared.Direction.{Direction}
-use Rattle.rules.specs.declared.Direction.the-variants.{Encrypt, Decrypt}
+use Rattle.rules.specs.Numbers.{modes, modeNumber, modeOf, isDecrypt, directionOf}
+use Rattle.rules.proofs.NumberLaws.{mode-again, direction-again}
 use Rattle.modes.specs.declared.session.Session.{Session}
 use Rattle.modes.specs.declared.session.Opened.{Opened}
 use Rattle.modes.specs.declared.session.Fed.{Fed}
 use Rattle.modes.specs.Sessions.{OpenedBy, FedBy, openNumber, feedNumber, refusedSession}
 use Rattle.carry.specs.Older.{carried}
-use Rattle.capi.specs.Held.{modeOf, modeNumber, directionOf, directionDecrypts, coded, openedNumber, openedAs, OpenedByNumber, OpenedAt, held, HeldAgain, fedNumber, fedAs, FedAt, held32, HeldCarried}
+use Rattle.capi.specs.Held.{coded, openedNumber, openedAs, OpenedByNumber, OpenedAt, held, HeldAgain, fedNumber, fedAs, FedAt, held32, HeldCarried}
 
-mode-number : (code k : ℕ) → code ≤ 4 → coded code k ≡ k
+mode-number : (code k : ℕ) → code < modes → coded code k ≡ k
 unfolding coded
-mode-number code k h = rw (le-leb code 4 h)
+mode-number code k h = rw (lt-ltb code modes h)
 
-no-mode : (code k : ℕ) → 4 < code → coded code k ≡ 12
+no-mode : (code k : ℕ) → modes ≤ code → coded code k ≡ 12
 unfolding coded
-no-mode code k h = rw (lt-leb code 4 h)
+no-mode code k h = rw (le-ltb code modes h)
 
 -- ---- open
 
 module _ (code : ℕ) (decrypting : Bool) (n m : ℕ) (key iv : List ℕ) where
-  pub not-opened : {r : Opened} → 4 < code → r .number ≡ 12 → r .session ≡ refusedSession → OpenedByNumber code decrypting n m key iv r
+  pub not-opened : {r : Opened} → modes ≤ code → r .number ≡ 12 → r .session ≡ refusedSession → OpenedByNumber code decrypting n m key iv r
   unfolding openedNumber openedAs
   not-opened h a s =
       let e = no-mode code (openNumber (modeOf code) n m key iv) h in
       record { answer = a ∙ sym e; opened = rw e s }
 
-  pub opened : {mode : Mode} {dir : Direction} {r : Opened} → code ≤ 4 → mode ≡ modeOf code → dir ≡ directionOf decrypting
+  pub opened : {mode : Mode} {dir : Direction} {r : Opened} → code < modes → mode ≡ modeOf code → dir ≡ directionOf decrypting
       → OpenedBy mode dir n m key iv r
       → OpenedByNumber code decrypting n m key iv r
   unfolding openedNumber openedAs
@@ -44,7 +44,7 @@ module _ (code : ℕ) (decrypting : Bool) (n m : ℕ) (key iv : List ℕ) where
 
   -- The fields of what was opened, written one by one.
   pub fields-written : {r : Opened} {mode : ℕ} {d : Bool} → OpenedByNumber code decrypting n m key iv r → mode ≡ modeNumber (r .session .mode)
-      → d ≡ directionDecrypts (r .session .direction)
+      → d ≡ isDecrypt (r .session .direction)
       → OpenedAt code decrypting n m key iv (r .number) mode d (r .session .n) (r .session .m) (r .session .rounds) (r .session .keys) (r .session .register) (r .session .units) (r .session .closed)
   fields-written o same d =
       let s = o .opened in
@@ -63,31 +63,18 @@ module _ (code : ℕ) (decrypting : Bool) (n m : ℕ) (key iv : List ℕ) where
 
 -- ---- feed
 
-mode-again : (m : Mode) → modeOf (modeNumber m) ≡ m
-unfolding modeOf modeNumber
-mode-again Ecb = refl
-mode-again Cbc = refl
-mode-again Cfb = refl
-mode-again Ofb = refl
-mode-again Ctr = refl
-
-direction-again : (d : Direction) → directionOf (directionDecrypts d) ≡ d
-unfolding directionOf directionDecrypts
-direction-again Encrypt = refl
-direction-again Decrypt = refl
-
 pub held-again : HeldAgain
 unfolding held HeldAgain
 held-again s = rw (mode-again (s .mode), direction-again (s .direction))
 
 module _ (code : ℕ) (s : Session) (input : List ℕ) (count : ℕ) (out : List ℕ) (place : ℕ) where
-  pub not-fed : 4 < code → FedAt code s input count out place 12 (s .register) (s .units) (s .closed) out 0
+  pub not-fed : modes ≤ code → FedAt code s input count out place 12 (s .register) (s .units) (s .closed) out 0
   unfolding fedNumber fedAs
   not-fed h =
       let e = no-mode code (feedNumber s (length input) count (length out) place) h in
       record { answer = sym e; register-written = rw e; units-written = rw e; closed-written = rw e; output = rw e; runs-written = rw e }
 
-  pub fed : {t : Session} {r : Fed} {after : List ℕ} → code ≤ 4 → t ≡ s → FedBy t input count out place r after
+  pub fed : {t : Session} {r : Fed} {after : List ℕ} → code < modes → t ≡ s → FedBy t input count out place r after
       → FedAt code s input count out place (r .number) (r .session .register) (r .session .units) (r .session .closed) after (r .runs)
   unfolding fedNumber fedAs
   fed h same f =

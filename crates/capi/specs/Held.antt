@@ -1,42 +1,21 @@
--- Sessions whose fields the caller holds apart: what a mode's number stands for, and what the calls answer and write.
+-- Sessions whose fields the caller holds apart: what the calls answer and write.
 use Prim.Native.Nat.{ℕ}
 use mathlib.Core.Path.{_≡_}
-use mathlib.Core.Bool.{Bool, true, false, cond}
+use mathlib.Core.Bool.{Bool, cond}
 use mathlib.Core.List.{List}
-use lib.Dec.{eqb, leb}
+use lib.Dec.{eqb, ltb}
 use lib.ListN.{length}
-use Rattle.rules.specs.declared.Mode.{Mode}
-use Rattle.rules.specs.declared.Mode.the-variants.{Ecb, Cbc, Cfb, Ofb, Ctr}
-use Rattle.rules.specs.declared.Direction.{Direction}
-use Rattle.rules.specs.declared.Direction.the-variants.{Encrypt, Decrypt}
+use Rattle.rules.specs.Numbers.{modes, modeNumber, modeOf, isDecrypt, directionOf}
+use Rattle.questions.specs.Questions.{notFormed}
 use Rattle.modes.specs.declared.session.Session.{Session}
 use Rattle.modes.specs.declared.session.Opened.{Opened}
 use Rattle.carry.specs.declared.Session32.{Session32}
 use Rattle.carry.specs.Older.{carried}
 use Rattle.modes.specs.Sessions.{openNumber, openedSession, refusedSession, feedNumber, fedText, sessionText, fedSession, sessionRuns, written}
 
--- ---- the numbers
-
-unfoldable pub modeOf : ℕ → Mode
-modeOf code = cond (eqb code 0) Ecb (cond (eqb code 1) Cbc (cond (eqb code 2) Cfb (cond (eqb code 3) Ofb Ctr)))
-
-unfoldable pub modeNumber : Mode → ℕ
-modeNumber Ecb = 0
-modeNumber Cbc = 1
-modeNumber Cfb = 2
-modeNumber Ofb = 3
-modeNumber Ctr = 4
-
-unfoldable pub directionOf : Bool → Direction
-directionOf decrypting = cond decrypting Decrypt Encrypt
-
-unfoldable pub directionDecrypts : Direction → Bool
-directionDecrypts Encrypt = false
-directionDecrypts Decrypt = true
-
--- A number above 4 is no mode, and the call is answered 12.
+-- Where the number is no mode's, the call is answered 12.
 unfoldable pub coded : ℕ → ℕ → ℕ
-coded code number = cond (leb code 4) number 12
+coded code number = cond (ltb code modes) number notFormed
 
 -- ---- open
 
@@ -57,7 +36,7 @@ module _ (code : ℕ) (decrypting : Bool) (n m : ℕ) (key iv : List ℕ) where
   pub record OpenedAt (r mode : ℕ) (decrypts : Bool) (size counter rounds : ℕ) (keys register : List ℕ) (units : ℕ) (closed : Bool) : Type 0 where
     pub answer : r ≡ openedNumber code n m key iv
     pub mode-written : mode ≡ modeNumber (openedAs code decrypting n m key iv .mode)
-    pub direction-written : decrypts ≡ directionDecrypts (openedAs code decrypting n m key iv .direction)
+    pub direction-written : decrypts ≡ isDecrypt (openedAs code decrypting n m key iv .direction)
     pub n-written : size ≡ openedAs code decrypting n m key iv .n
     pub m-written : counter ≡ openedAs code decrypting n m key iv .m
     pub rounds-written : rounds ≡ openedAs code decrypting n m key iv .rounds
@@ -85,7 +64,7 @@ held code decrypting n m rounds keys register units closed =
 -- The fields of a session, as an opening writes them, make that session again.
 unfoldable pub HeldAgain : Type 0
 HeldAgain =
-    (s : Session) → held (modeNumber (s .mode)) (directionDecrypts (s .direction)) (s .n) (s .m) (s .rounds) (s .keys) (s .register) (s .units) (s .closed) ≡ s
+    (s : Session) → held (modeNumber (s .mode)) (isDecrypt (s .direction)) (s .n) (s .m) (s .rounds) (s .keys) (s .register) (s .units) (s .closed) ≡ s
 
 -- What a feed of the session s answers and writes, s being held under the mode's number `code`.
 module _ (code : ℕ) (s : Session) (input : List ℕ) (count : ℕ) (out : List ℕ) (place : ℕ) where

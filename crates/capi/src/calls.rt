@@ -19,8 +19,8 @@ pub extern "C" fn conguraha_aes_encrypt(key: &[u8], block: &[u8; 16], out: &mut 
     ensures { λ r. ⌜ BlockAnswer (now (key .entry)) (encrypted (now (key .entry)) (now (block .entry))) r (now (out .exit)) ⌝ }
 {
     let answer = aes::encrypt(key, *block);
-    let cipher = answer.block;
-    *out = cipher;
+    let made = answer.block;
+    *out = made;
     answer.number
 }
 

@@ -1,60 +1,8 @@
-// Sessions, as the crate modes answers them. The caller holds a session's fields apart. A mode is a number: 0 for ECB, 1 for
-// CBC, 2 for CFB, 3 for OFB, 4 for CTR; a number above 4 is none, and an opening or a feed is answered 12.
+// Sessions, as the crate modes answers them. The caller holds a session's fields apart, the mode as its number and the direction as a
+// flag (the crate rules). Where a number is no mode's, an opening or a feed is answered 12.
 use modes::Opened;
 use modes::Session;
-use rules::Direction;
-use rules::Mode;
-ghost use mathlib.Core.Path.{_≡_};
-ghost use Rattle.capi.specs.Held.{modeOf, modeNumber, directionOf, directionDecrypts, held, OpenedByNumber, OpenedAt, FedAt, CarriedAt};
-
-fn mode_of(code: usize) -> Mode
-    ensures { λ r. ⌜ r ≡ modeOf code ⌝ }
-{
-    if code == 0 {
-        return Mode::Ecb;
-    }
-    if code == 1 {
-        return Mode::Cbc;
-    }
-    if code == 2 {
-        return Mode::Cfb;
-    }
-    if code == 3 {
-        return Mode::Ofb;
-    }
-    Mode::Ctr
-}
-
-fn mode_number(mode: Mode) -> usize
-    ensures { λ r. ⌜ r ≡ modeNumber mode ⌝ }
-{
-    match mode {
-        Mode::Ecb => 0,
-        Mode::Cbc => 1,
-        Mode::Cfb => 2,
-        Mode::Ofb => 3,
-        Mode::Ctr => 4,
-    }
-}
-
-fn direction_of(decrypting: bool) -> Direction
-    ensures { λ r. ⌜ r ≡ directionOf decrypting ⌝ }
-{
-    if decrypting {
-        Direction::Decrypt
-    } else {
-        Direction::Encrypt
-    }
-}
-
-fn decrypts(direction: Direction) -> bool
-    ensures { λ r. ⌜ r ≡ directionDecrypts direction ⌝ }
-{
-    match direction {
-        Direction::Encrypt => false,
-        Direction::Decrypt => true,
-    }
-}
+ghost use Rattle.capi.specs.Held.{held, OpenedByNumber, OpenedAt, FedAt, CarriedAt};
 
 // A number that is no mode's gives the refused session, as every refused opening does.
 fn open_by_number(
@@ -67,13 +15,20 @@ fn open_by_number(
 ) -> Opened
     ensures { λ r. ⌜ OpenedByNumber mode decrypting n m (now (key .entry)) (now (iv .entry)) r ⌝ }
 {
-    if mode > 4 {
+    if mode >= rules::MODES {
         return Opened {
             number: 12,
             session: Session::refused(),
         };
     }
-    Session::open_counter(mode_of(mode), direction_of(decrypting), n, m, key, iv)
+    Session::open_counter(
+        rules::mode_of(mode),
+        rules::direction_of(decrypting),
+        n,
+        m,
+        key,
+        iv,
+    )
 }
 
 // Opens a session in which the whole block counts in CTR.
@@ -143,8 +98,8 @@ pub extern "C" fn conguraha_open_counter(
     let direction = session.direction;
     let expanded = session.keys;
     let first = session.register;
-    *held_mode = mode_number(opened_mode);
-    *held_decrypting = decrypts(direction);
+    *held_mode = rules::mode_number(opened_mode);
+    *held_decrypting = rules::decrypts(direction);
     *held_n = session.n;
     *held_m = session.m;
     *rounds = session.rounds;
@@ -176,13 +131,13 @@ pub extern "C" fn conguraha_feed(
 ) -> u8
     ensures { λ r. ⌜ FedAt mode (held mode decrypting n m rounds (now (keys .entry)) (now (register .entry)) (now (units .entry)) (now (closed .entry))) (now (input .entry)) bits (now (out .entry)) place r (now (register .exit)) (now (units .exit)) (now (closed .exit)) (now (out .exit)) (now (runs .exit)) ⌝ }
 {
-    if mode > 4 {
+    if mode >= rules::MODES {
         *runs = 0;
         return 12;
     }
     let session = Session {
-        mode: mode_of(mode),
-        direction: direction_of(decrypting),
+        mode: rules::mode_of(mode),
+        direction: rules::direction_of(decrypting),
         n,
         m,
         rounds,

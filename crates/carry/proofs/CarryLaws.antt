@@ -8,7 +8,7 @@ use Rattle.questions.specs.Questions.{maxUnits}
 use Rattle.modes.specs.declared.session.Session.{Session}
 use Rattle.modes.specs.declared.session.Fed.{Fed}
 use Rattle.modes.specs.Sessions.{FedWithin, FedBy, feedNumberWithin}
-use Rattle.modes.specs.Lists.{Call}
+use Rattle.feeds.specs.Lists.{Call}
 use Rattle.modes.proofs.FeedLaws.{refused-same, units-within}
 use Rattle.carry.specs.declared.Session32.{Session32}
 use Rattle.carry.specs.OlderQuestions.{olderMaxUnits}

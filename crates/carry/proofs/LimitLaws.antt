@@ -7,7 +7,7 @@ use native.Mathlib.Omega.{arith}
 use borrow.Author.Tests.{leb-true, leb-false, le-leb}
 use Rattle.rules.specs.declared.Mode.{Mode}
 use Rattle.rules.specs.Rules.{unitsIn}
-use Rattle.questions.specs.Questions.{Question, ask, sessionOk, bitsOk, unitsOk, countersOk, maxBits, feedQuestionsTo8, feedQuestions}
+use Rattle.questions.specs.Questions.{Question, ask, sessionOk, bitsOk, unitsOk, countersOk, maxBits, unitLimit, counterLimit, feedQuestionsTo8, feedQuestions}
 use Rattle.questions.specs.Promises.{AllYes}
 
 -- ---- any list
@@ -61,10 +61,10 @@ module _ (mode : Mode) (rounds n m : ℕ) (closed : Bool) (units bytes count siz
   before-9 = feedQuestionsTo8 mode rounds n m closed bytes count size place
 
   abbrev question-9 : ℕ → Question
-  question-9 limit = record { yes = unitsOk limit units (unitsIn n count); number = 9 }
+  question-9 limit = unitLimit limit units (unitsIn n count)
 
   abbrev behind-9 : List Question
-  behind-9 = record { yes = countersOk m units (unitsIn n count); number = 15 } ∷ []
+  behind-9 = counterLimit m units (unitsIn n count) ∷ []
 
   abbrev number : ℕ → ℕ
   number limit = ask (feedQuestions limit mode rounds n m closed units bytes count size place)

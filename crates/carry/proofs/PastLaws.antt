@@ -17,7 +17,7 @@ use Rattle.rules.proofs.Taken.{unit-bounds}
 use Rattle.questions.specs.Questions.{countersOk, maxBits, maxUnits}
 use Rattle.questions.proofs.QuestionLaws.{session-good, bits-small}
 use Rattle.modes.specs.Sessions.{FedBy, feedNumberWithin}
-use Rattle.modes.specs.Lists.{Call}
+use Rattle.feeds.specs.Lists.{Call}
 use Rattle.carry.specs.declared.Session32.{Session32}
 use Rattle.carry.specs.OlderQuestions.{olderMaxUnits}
 use Rattle.carry.specs.Older.{Fits, carried, Call32, FedBy32}

@@ -4,11 +4,12 @@
 use Prim.Native.Nat.{ℕ, _+_, _^_, _<_, _/_, _%_}
 use mathlib.Core.Path.{_≡_}
 use mathlib.Core.Bool.{Bool, true, false, cond, not}
-use mathlib.Core.List.{List, [], _∷_}
+use mathlib.Core.List.{List}
 use lib.Dec.{eqb}
 use lib.ListN.{length, replicate}
+use Rattle.calls.specs.Calls.{Calls}
 use Rattle.cipher.specs.Cipher.{Enc, Dec}
-use Rattle.aes.specs.KeyExpansion.{roundsFor, roundKeys}
+use Rattle.expansion.specs.KeyExpansion.{roundsFor, roundKeys}
 use Rattle.rules.specs.declared.Mode.{Mode}
 use Rattle.rules.specs.declared.Mode.the-variants.{Ecb}
 use Rattle.rules.specs.declared.Direction.{Direction}
@@ -97,10 +98,13 @@ pub record FedBy32 (s : Session32) (c : Call32) : Type 0 where
   pub output : c .after ≡ cond (eqb (feedNumber32 s c) 0) (written (c .out) (c .place) (sessionText32 s (fedText (c .input) (c .count)))) (c .out)
   pub runs : c .runs ≡ cond (eqb (feedNumber32 s c) 0) (olderUnits (s .n) (length (fedText (c .input) (c .count)))) 0
 
--- That release's feeds, one after the other, take the session s to the session t.
-pub data Run32 : Session32 → List Call32 → Session32 → Type 0 where
-  done32 : {s : Session32} → Run32 s [] s
-  fed32 : {s t : Session32} {c : Call32} {cs : List Call32} → FedBy32 s c → Run32 (c .session) cs t → Run32 s (c ∷ cs) t
+-- It left the session that it returned.
+pub data Feed32 : Session32 → Call32 → Session32 → Type 0 where
+  fed32 : {s : Session32} {c : Call32} → FedBy32 s c → Feed32 s c (c .session)
+
+-- That release's feeds, one after the other, take the session s to the session `last`.
+abbrev pub Feeds32 : Session32 → List Call32 → Session32 → Type 0
+Feeds32 = Calls Feed32
 
 -- ---- carried over
 

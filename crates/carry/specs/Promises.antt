@@ -15,11 +15,11 @@ use Rattle.questions.specs.Questions.{countersOk, openQuestions, feedQuestions}
 use Rattle.modes.specs.declared.session.Session.{Session}
 use Rattle.modes.specs.declared.session.Fed.{Fed}
 use Rattle.modes.specs.Sessions.{OpenedBy, FedWithin}
-use Rattle.modes.specs.Lists.{Call, Run}
-use Rattle.modes.specs.Promises.{TextOf, Recovered}
+use Rattle.feeds.specs.Lists.{Call, Feeds}
+use Rattle.feeds.specs.Promises.{TextOf, Recovered}
 use Rattle.carry.specs.declared.Session32.{Session32}
 use Rattle.carry.specs.OlderQuestions.{olderMaxUnits, olderOpenQuestions, olderQuestions}
-use Rattle.carry.specs.Older.{Fits, carried, OpenedBy32, Call32, FedBy32, Run32}
+use Rattle.carry.specs.Older.{Fits, carried, OpenedBy32, Call32, FedBy32, Feeds32}
 
 -- ---- each part
 
@@ -58,7 +58,7 @@ pub record OlderGives : Type 0 where
 
 -- No feed of that release leads past a number of 32 bits: so its limit is no higher than that type allows.
 unfoldable pub UnitsFit : Type 0
-UnitsFit = (s t : Session32) (olds : List Call32) → Fits s → Run32 s olds t → Fits t
+UnitsFit = (s last : Session32) (olds : List Call32) → Fits s → Feeds32 s olds last → Fits last
 
 -- ---- the same feeds
 
@@ -107,15 +107,15 @@ unfoldable pub NeverPast : List Call32 → Type 0
 NeverPast [] = Unit {0}
 NeverPast (c ∷ cs) = (c .number ≡ 9 → ⊥) × NeverPast cs
 
-pub record GoesOn (s : Session32) (olds : List Call32) (t : Session32) (calls : List Call) (end : Session) : Type 0 where
+pub record GoesOn (s : Session32) (olds : List Call32) (last : Session32) (calls : List Call) (end : Session) : Type 0 where
   pub each : SameWhileAllowed s olds calls
-  pub at-the-end : NeverPast olds → end ≡ carried t
+  pub at-the-end : NeverPast olds → end ≡ carried last
 
 -- For any older session and any list of feeds.
 unfoldable pub CarriedGoesOn : Type 0
 CarriedGoesOn =
-    (s t : Session32) (end : Session) (olds : List Call32) (calls : List Call) → Fits s → Run32 s olds t → Run (carried s) calls end
-    → SameFeeds olds calls → GoesOn s olds t calls end
+    (s last : Session32) (end : Session) (olds : List Call32) (calls : List Call) → Fits s → Feeds32 s olds last → Feeds (carried s) calls end
+    → SameFeeds olds calls → GoesOn s olds last calls end
 
 -- ---- across the change of release
 
@@ -131,19 +131,19 @@ acceptedFeeds (c ∷ cs) = cond (eqb (c .number) 0) (todays c ∷ acceptedFeeds 
 -- promised of lists holds across the change.
 unfoldable pub AcrossTheChange : Type 0
 AcrossTheChange =
-    (s t : Session32) (end : Session) (olds : List Call32) (calls : List Call) → Run32 s olds t → Run (carried t) calls end
-    → Run (carried s) (acceptedFeeds olds ++ calls) end
+    (s last : Session32) (end : Session) (olds : List Call32) (calls : List Call) → Feeds32 s olds last → Feeds (carried last) calls end
+    → Feeds (carried s) (acceptedFeeds olds ++ calls) end
 
--- Demands 2 and 3, for sessions that the older release's opening gave with the number 0. The change may come at any place of each list.
+-- Demands 2 and 3, for sessions that the older release's opening gave with the number 0. The change may come anywhere in each list.
 unfoldable pub DemandTwoAcross : Type 0
 DemandTwoAcross =
-    (mode : Mode) (dir : Direction) (n m : ℕ) (key iv : List ℕ) (s t : Session32) (end : Session) (olds : List Call32) (calls : List Call)
-    → Bytes key → Bytes iv → OpenedBy32 mode dir n m key iv 0 s → Run32 s olds t → Run (carried t) calls end
+    (mode : Mode) (dir : Direction) (n m : ℕ) (key iv : List ℕ) (s last : Session32) (end : Session) (olds : List Call32) (calls : List Call)
+    → Bytes key → Bytes iv → OpenedBy32 mode dir n m key iv 0 s → Feeds32 s olds last → Feeds (carried last) calls end
     → TextOf mode dir n m key iv (acceptedFeeds olds ++ calls) end
 
 unfoldable pub DemandThreeAcross : Type 0
 DemandThreeAcross =
     (mode : Mode) (n m m′ : ℕ) (key v w : List ℕ) → Bytes key → Bytes v → Bytes w
-    → (s t : Session32) (end : Session) (olds : List Call32) (calls : List Call) → OpenedBy32 mode Decrypt n m key v 0 s → Run32 s olds t → Run (carried t) calls end
-    → (s′ t′ : Session32) (end′ : Session) (olds′ : List Call32) (others : List Call) → OpenedBy32 mode Decrypt n m′ key w 0 s′ → Run32 s′ olds′ t′ → Run (carried t′) others end′
+    → (s last : Session32) (end : Session) (olds : List Call32) (calls : List Call) → OpenedBy32 mode Decrypt n m key v 0 s → Feeds32 s olds last → Feeds (carried last) calls end
+    → (s′ last′ : Session32) (end′ : Session) (olds′ : List Call32) (others : List Call) → OpenedBy32 mode Decrypt n m′ key w 0 s′ → Feeds32 s′ olds′ last′ → Feeds (carried last′) others end′
     → Recovered mode n m m′ key v w (acceptedFeeds olds ++ calls) (acceptedFeeds olds′ ++ others)

@@ -5,12 +5,12 @@ use mathlib.Core.List.{List}
 use Prim.Native.Nat.{ℕ, zero, suc, _-_}
 use lib.ListN.{replicate}
 use Rattle.bits.specs.Blocks.{Bytes, Block}
-use Rattle.cipher.specs.State.{fromBlock, toBlock}
-use Rattle.cipher.specs.Steps.{subBytes, invSubBytes, shiftRows, invShiftRows, mixColumns, invMixColumns, addRoundKey}
+use Rattle.steps.specs.State.{fromBlock, toBlock}
+use Rattle.steps.specs.Steps.{subBytes, invSubBytes, shiftRows, invShiftRows, mixColumns, invMixColumns, addRoundKey}
 use Rattle.cipher.specs.Cipher.{rounds, cipher, invRounds, invCipher, roundsOk, Enc, Dec}
 use Rattle.cipher.specs.Promises.{UndoEachOther}
-use Rattle.cipher.proofs.StateLaws.{Square, fromBlock-square, from-to, to-from, toBlock-block}
-use Rattle.cipher.proofs.StepLaws as Step
+use Rattle.steps.proofs.StateLaws.{Square, fromBlock-square, from-to, to-from, toBlock-block}
+use Rattle.steps.proofs.StepLaws as Step
 
 module _ (w : List ℕ) (hw : Bytes w) where
   rounds-square : (k : ℕ) {s : List (List ℕ)} → Square s → Square (rounds w k s)

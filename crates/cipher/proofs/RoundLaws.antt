@@ -6,13 +6,13 @@ use mathlib.Core.List.{List}
 use Prim.Native.Nat.{ℕ, suc, _+_, _-_, _≤_}
 use native.Mathlib.Omega.{arith}
 use lib.ListN.{getD}
-use Rattle.field.specs.Boxes.{subByte, invSubByte, Tabulates}
-use Rattle.cipher.specs.State.{fromBlock, toBlock}
-use Rattle.cipher.specs.Steps.{bytewise, subBytes, invSubBytes, shiftRows, invShiftRows, mixColumns, invMixColumns, addRoundKey}
+use Rattle.boxes.specs.Boxes.{subByte, invSubByte, Tabulates}
+use Rattle.steps.specs.State.{fromBlock, toBlock}
+use Rattle.steps.specs.Steps.{bytewise, subBytes, invSubBytes, shiftRows, invShiftRows, mixColumns, invMixColumns, addRoundKey}
 use Rattle.cipher.specs.Cipher.{rounds, cipher, invRounds, invCipher, roundsOk}
-use Rattle.cipher.proofs.TestLaws.{passed}
-use Rattle.cipher.proofs.StateLaws.{StateBytes}
-use Rattle.cipher.proofs.StepLaws.{bytewise-table, invShiftRows-bytes}
+use Rattle.bits.proofs.TestLaws.{passed}
+use Rattle.steps.proofs.StateLaws.{StateBytes}
+use Rattle.steps.proofs.StepLaws.{bytewise-table, invShiftRows-bytes}
 
 pub rounds-bounds : (nr : ℕ) → roundsOk nr ≡ true → (10 ≤ nr) × (nr ≤ 14)
 unfolding roundsOk

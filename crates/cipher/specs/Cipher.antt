@@ -4,8 +4,8 @@ use mathlib.Core.Bool.{Bool, true, cond}
 use mathlib.Core.List.{List}
 use lib.Dec.{eqb}
 use lib.ListN.{replicate}
-use Rattle.cipher.specs.State.{fromBlock, toBlock}
-use Rattle.cipher.specs.Steps.{subBytes, invSubBytes, shiftRows, invShiftRows, mixColumns, invMixColumns, addRoundKey}
+use Rattle.steps.specs.State.{fromBlock, toBlock}
+use Rattle.steps.specs.Steps.{subBytes, invSubBytes, shiftRows, invShiftRows, mixColumns, invMixColumns, addRoundKey}
 
 -- The state after the first AddRoundKey and k rounds.
 unfoldable pub rounds : List ℕ → ℕ → List (List ℕ) → List (List ℕ)

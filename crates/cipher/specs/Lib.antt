@@ -1,5 +1,3 @@
 -- FIPS 197's block functions in their own steps and names, and what is promised of them.
-pub mod State
-pub mod Steps
 pub mod Cipher
 pub mod Promises

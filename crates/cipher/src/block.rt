@@ -1,11 +1,9 @@
 // The block functions Enc and Dec, under given rounds and round keys.
-use crate::state;
-use crate::steps;
 ghost use mathlib.Core.Path.{_≡_};
 ghost use mathlib.Core.Bool.{true};
 ghost use Prim.Native.Nat.{_<_};
 ghost use lib.ListN.{getD};
-ghost use Rattle.cipher.specs.Steps.{bytewise, shiftRows, invShiftRows, mixColumns, invMixColumns, addRoundKey};
+ghost use Rattle.steps.specs.Steps.{bytewise, shiftRows, invShiftRows, mixColumns, invMixColumns, addRoundKey};
 ghost use Rattle.cipher.specs.Cipher.{cipher, invCipher, roundsOk, Enc, Dec};
 
 pub fn rounds_ok(rounds: usize) -> bool
@@ -35,15 +33,15 @@ fn cipher_block(rounds: usize, keys: &[u8; 240], block: [u8; 16]) -> [u8; 16]
     requires { ⌜ roundsOk rounds ≡ true ⌝ }
     ensures { λ r. ⌜ r ≡ cipher rounds (now (keys .entry)) block ⌝ }
 {
-    let table = field::sbox();
-    let mut s = steps::add_round_key(keys, 0, state::load(block));
+    let table = boxes::sbox();
+    let mut s = steps::add_round_key(keys, 0, steps::load(block));
     let mut round: usize = 1;
     while round < rounds {
         let next = full_round(&table, keys, round, s);
         s = next;
         round += 1;
     }
-    state::store(steps::add_round_key(keys, rounds, steps::shift_rows(steps::sub_bytes(&table, s))))
+    steps::store(steps::add_round_key(keys, rounds, steps::shift_rows(steps::sub_bytes(&table, s))))
 }
 
 fn full_inv_round(
@@ -71,15 +69,15 @@ fn inv_cipher_block(rounds: usize, keys: &[u8; 240], block: [u8; 16]) -> [u8; 16
     requires { ⌜ roundsOk rounds ≡ true ⌝ }
     ensures { λ r. ⌜ r ≡ invCipher rounds (now (keys .entry)) block ⌝ }
 {
-    let table = field::inv_sbox();
-    let mut s = steps::add_round_key(keys, rounds, state::load(block));
+    let table = boxes::inv_sbox();
+    let mut s = steps::add_round_key(keys, rounds, steps::load(block));
     let mut round: usize = rounds - 1;
     while 0 < round {
         let next = full_inv_round(&table, keys, round, s);
         s = next;
         round -= 1;
     }
-    state::store(steps::add_round_key(keys, 0, steps::sub_bytes(&table, steps::inv_shift_rows(s))))
+    steps::store(steps::add_round_key(keys, 0, steps::sub_bytes(&table, steps::inv_shift_rows(s))))
 }
 
 // Enc. Zero bytes under rounds other than 10, 12 and 14.

@@ -1,7 +1,5 @@
 // AES (FIPS 197): the block functions under given rounds and round keys, step by step on the square state.
 mod block;
-mod state;
-mod steps;
 
 pub use block::decrypt_block;
 pub use block::encrypt_block;

@@ -6,16 +6,16 @@ use Rattle.bits.specs.Xor.{xor, xorBytes}
 use Rattle.bits.specs.Texts.{bit, byteBits, bits, digit, byteOf, packTo, bytesFor, pack, xorBit, xorBits, shiftIn}
 use Rattle.bits.specs.Counter.{number, numberBytes, plusOne, increment}
 use Rattle.field.specs.Field.{double, shiftAdd, product, square, squares, inverse}
-use Rattle.field.specs.Boxes.{low, fromBits, affine, unaffine, subByte, invSubByte}
+use Rattle.boxes.specs.Boxes.{low, fromBits, affine, unaffine, subByte, invSubByte}
 use Rattle.field.specs.Rows.{four, wordAt}
-use Rattle.cipher.specs.State.{at, state, fromBlock, column, toBlock}
-use Rattle.cipher.specs.Steps.{bytewise, subBytes, invSubBytes, shiftRows, invShiftRows, circulant, dot, mixWith, mixColumns, invMixColumns, addRoundKey}
-use Rattle.cipher.specs.Cipher.{rounds, cipher as aesCipher, invRounds, invCipher, roundsOk, Enc, Dec}
-use Rattle.aes.specs.KeyExpansion.{subWord, rotWord, power, rcon, temp, nextWord, schedule, roundsFor, roundKeys}
+use Rattle.steps.specs.State.{at, state, fromBlock, column, toBlock}
+use Rattle.steps.specs.Steps.{bytewise, subBytes, invSubBytes, shiftRows, invShiftRows, circulant, dot, mixWith, mixColumns, invMixColumns, addRoundKey}
+use Rattle.cipher.specs.Cipher.{rounds, cipher, invRounds, invCipher, roundsOk, Enc, Dec}
+use Rattle.expansion.specs.KeyExpansion.{subWord, rotWord, power, rcon, temp, nextWord, schedule, roundsFor, roundKeys}
 use Rattle.aes.specs.Calls.{keyOk, keyRounds, keyBytes}
-use Rattle.rules.specs.Rules.{msb, mask, next, cipher, plain, outOf, nextOf, unitAt, unitsIn, joined, registerAt, outAt, worked}
+use Rattle.rules.specs.Rules.{msb, mask, next, cipherUnit, plainUnit, outOf, nextOf, unitAt, unitsIn, joined, registerAt, outAt, worked}
 use Rattle.questions.specs.Questions.{ask, bitsOk}
-use Rattle.grammar.specs.Grammar.{same}
+use Rattle.header.specs.Header.{same}
 use Rattle.padding.specs.Padding.{zerosFor, padded, upToLastOne, lastBlock, unpaddedLength, wholeBlocks, unpadQuestions, unpadNumber}
 use Rattle.examples.specs.Examples.{key, iv, ivEncrypted, allPass, digits, examples, ExamplesPass}
 
@@ -33,7 +33,7 @@ the-keys = refl
 
 -- a block under it, computed
 encrypting : List ℕ → List ℕ
-unfolding xor double shiftAdd product square squares inverse low fromBits affine subByte four at state fromBlock column toBlock bytewise subBytes shiftRows circulant dot mixWith mixColumns addRoundKey rounds aesCipher roundsOk Enc
+unfolding xor double shiftAdd product square squares inverse low fromBits affine subByte four at state fromBlock column toBlock bytewise subBytes shiftRows circulant dot mixWith mixColumns addRoundKey rounds cipher roundsOk Enc
 encrypting b = Enc 10 keys b
 
 decrypting : List ℕ → List ℕ
@@ -69,5 +69,5 @@ unfolding encrypting
 cfb-1c = refl
 
 pub examples-pass : ExamplesPass
-unfolding ExamplesPass examples allPass same digits xor xorBytes bit byteBits bits digit byteOf packTo bytesFor pack xorBit xorBits shiftIn number numberBytes plusOne increment double shiftAdd product square squares inverse low fromBits affine subByte msb mask next cipher plain outOf nextOf unitAt unitsIn joined registerAt outAt worked ask bitsOk zerosFor padded upToLastOne lastBlock unpaddedLength wholeBlocks unpadQuestions unpadNumber
+unfolding ExamplesPass examples allPass same digits xor xorBytes bit byteBits bits digit byteOf packTo bytesFor pack xorBit xorBits shiftIn number numberBytes plusOne increment double shiftAdd product square squares inverse low fromBits affine subByte msb mask next cipherUnit plainUnit outOf nextOf unitAt unitsIn joined registerAt outAt worked ask bitsOk zerosFor padded upToLastOne lastBlock unpaddedLength wholeBlocks unpadQuestions unpadNumber
 examples-pass = rw (the-rounds, the-keys, iv-in, iv-back, cbc, cfb-8, cfb-1a, cfb-1b, cfb-1c)

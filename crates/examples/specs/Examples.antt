@@ -7,13 +7,13 @@ use lib.ListN.{length, replicate}
 use Rattle.bits.specs.Texts.{bits, pack, digit}
 use Rattle.bits.specs.Counter.{increment}
 use Rattle.field.specs.Field.{product}
-use Rattle.field.specs.Boxes.{subByte}
+use Rattle.boxes.specs.Boxes.{subByte}
 use Rattle.cipher.specs.Cipher.{Enc, Dec}
 use Rattle.aes.specs.Calls.{keyRounds, keyBytes}
 use Rattle.rules.specs.declared.Mode.the-variants.{Cbc, Cfb}
 use Rattle.rules.specs.declared.Direction.the-variants.{Encrypt, Decrypt}
 use Rattle.rules.specs.Rules.{worked}
-use Rattle.grammar.specs.Grammar.{same}
+use Rattle.header.specs.Header.{same}
 use Rattle.padding.specs.Padding.{padded, unpaddedLength, unpadNumber}
 
 -- ---- a row, and the test

@@ -1,13 +1,17 @@
--- The inverses of all bytes, as a list: one test computes each of them, and the other tests look them up. Assumes nothing.
-use mathlib.Core.Path.{_≡_}
+-- The inverses of all bytes, as a list: one test computes each of them, and the other tests look them up. The inverse is the inverse.
+-- Assumes nothing.
+use mathlib.Core.Path.{_≡_, refl, sym, ap, _∙_}
 use mathlib.Core.List.{List, [], _∷_}
-use Prim.Native.Nat.{ℕ, _<_}
+use Prim.Native.Nat.{ℕ, zero, suc, _+_, _/_, _<_}
+use native.Mathlib.Omega.{arith}
 use lib.ListN.{getD}
 use Rattle.bits.specs.Xor.{xor}
-use Rattle.bits.proofs.Tables.{entry}
+use Rattle.bits.proofs.Tables.{agree, entry}
 use Rattle.field.specs.Field.{double, shiftAdd, product, square, squares, inverse}
+use Rattle.field.specs.Promises.{InverseOfBytes}
+use Rattle.field.proofs.FieldLaws.{product-byte}
 
-abbrev inverses : List ℕ
+abbrev pub inverses : List ℕ
 inverses =
     0x00 ∷ 0x01 ∷ 0x8d ∷ 0xf6 ∷ 0xcb ∷ 0x52 ∷ 0x7b ∷ 0xd1 ∷ 0xe8 ∷ 0x4f ∷ 0x29 ∷ 0xc0 ∷ 0xb0 ∷ 0xe1 ∷ 0xe5 ∷ 0xc7
     ∷ 0x74 ∷ 0xb4 ∷ 0xaa ∷ 0x4b ∷ 0x99 ∷ 0x2b ∷ 0x60 ∷ 0x5f ∷ 0x58 ∷ 0x3f ∷ 0xfd ∷ 0xcc ∷ 0xff ∷ 0x40 ∷ 0xee ∷ 0xb2
@@ -32,3 +36,31 @@ listedInverse b = getD inverses b 0
 pub listed-inverse : (b : ℕ) → b < 256 → listedInverse b ≡ inverse b
 unfolding xor double shiftAdd product square squares inverse listedInverse
 listed-inverse b h = entry inverse inverses tt b h
+
+-- The product of a byte and its inverse: 1, and 0 for 00.
+pub inverse-product : (b : ℕ) → b < 256 → product b (inverse b) ≡ (b + 255) / 256
+unfolding xor double shiftAdd product listedInverse
+inverse-product b h =
+    ap (product b) (sym (listed-inverse b h)) ∙ agree (λ b. product b (listedInverse b)) (λ b. (b + 255) / 256) 256 tt b h
+
+squares-byte : (k b : ℕ) → squares k b < 256
+unfolding squares
+squares-byte zero b = omega arith
+squares-byte (suc k) b = product-byte (square b) (squares k (square b)) (squares-byte k (square b))
+
+pub inverse-byte : (b : ℕ) → inverse b < 256
+unfolding inverse
+inverse-byte b = squares-byte 7 b
+
+pub inverse-inverse : (b : ℕ) → b < 256 → inverse (inverse b) ≡ b
+unfolding listedInverse
+inverse-inverse b h =
+    sym (listed-inverse (inverse b) (inverse-byte b)) ∙ ap listedInverse (sym (listed-inverse b h))
+    ∙ agree (λ b. listedInverse (listedInverse b)) (λ b. b) 256 tt b h
+
+-- ---- the promise
+
+pub inverse-of-bytes : InverseOfBytes
+unfolding xor double shiftAdd product square squares inverse
+inverse-of-bytes =
+    record { byte = inverse-byte; inverts = λ b h some. inverse-product b h ∙ omega (arith, some); of-zero = refl }

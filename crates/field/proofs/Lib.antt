@@ -2,7 +2,5 @@
 pub mod FieldLaws
 pub mod Linear
 pub mod Inverses
-pub mod BoxLaws
-pub mod TableLaws
 pub mod Fours
 pub mod RowLaws

@@ -77,14 +77,14 @@ doubled-quad : (a b c d : ℕ) → a < 256 → b < 256 → c < 256 → d < 256 �
 unfolding doubled double
 doubled-quad a b c d ha hb hc hd =
     ap₂ xor
-    (ap (λ (x : ℕ). x / 128 * 27) (tops a b c d hb hc hd) ∙ carried (a / 128 % 2) (b / 128 % 2) (c / 128 % 2) (d / 128 % 2))
+    (ap (λ (x : ℕ). x / 128 * 27) (tops a b c d hb hc hd) ∙ tops-reduced (a / 128 % 2) (b / 128 % 2) (c / 128 % 2) (d / 128 % 2))
     (ap (λ (x : ℕ). x * 2 % 2 ^ 32) (bottoms a b c d ha hb hc hd)
     ∙ moved (a % 128) (b % 128) (c % 128) (d % 128) (omega arith) (omega arith) (omega arith) (omega arith))
     ∙ xor-quad (a / 128 % 2 * 27) (b / 128 % 2 * 27) (c / 128 % 2 * 27) (d / 128 % 2 * 27) (a % 128 * 2) (b % 128 * 2) (c % 128 * 2) (d % 128 * 2)
     (omega arith) (omega arith) (omega arith) (omega arith) (omega arith) (omega arith)
   where
-    carried : (s t u v : ℕ) → quad (s * 128) (t * 128) (u * 128) (v * 128) / 128 * 27 ≡ quad (s * 27) (t * 27) (u * 27) (v * 27)
-    carried s t u v = omega arith
+    tops-reduced : (s t u v : ℕ) → quad (s * 128) (t * 128) (u * 128) (v * 128) / 128 * 27 ≡ quad (s * 27) (t * 27) (u * 27) (v * 27)
+    tops-reduced s t u v = omega arith
 
     moved : (s t u v : ℕ) → s < 128 → t < 128 → u < 128 → v < 128
         → quad s t u v * 2 % 2 ^ 32 ≡ quad (s * 2) (t * 2) (u * 2) (v * 2)
@@ -110,9 +110,9 @@ doubled-row x h =
     ∙ sym (number-four (double (x / 16777216 % 256)) (double (x / 65536 % 256)) (double (x / 256 % 256)) (double (x % 256)))
     ∙ ap (λ (l : List ℕ). number (map double l)) (sym (split-four x))
 
--- the carried bits are few enough to multiply
-pub carries-fit : (x : ℕ) → x < 2 ^ 32 → bitAnd x 0x8080_8080 / 128 * 27 < 2 ^ 32
-carries-fit x h =
+-- the bits that leave a byte are few enough to multiply
+pub tops-fit : (x : ℕ) → x < 2 ^ 32 → bitAnd x 0x8080_8080 / 128 * 27 < 2 ^ 32
+tops-fit x h =
     let e : bitAnd x 0x8080_8080 ≡ quad (x / 16777216 % 256 / 128 % 2 * 128) (x / 65536 % 256 / 128 % 2 * 128) (x / 256 % 256 / 128 % 2 * 128) (x % 256 / 128 % 2 * 128) = ap (λ (y : ℕ). bitAnd y 0x8080_8080) (sym (whole x h)) ∙ tops (x / 16777216 % 256) (x / 65536 % 256) (x / 256 % 256) (x % 256) (omega arith) (omega arith) (omega arith) in
     omega arith
 

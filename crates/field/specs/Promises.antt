@@ -1,18 +1,10 @@
--- What is promised of the rules by which SubBytes and its inverse are defined (document 01, "The block cipher").
+-- What is promised of the inverse in the field (document 01, "The block cipher").
 use Prim.Native.Nat.{ℕ, _<_}
 use mathlib.Core.Path.{_≡_}
 use Rattle.field.specs.Field.{product, inverse}
-use Rattle.field.specs.Boxes.{subByte, invSubByte}
 
 -- The inverse of a byte: their product is 01. It is 00 for 00.
 pub record InverseOfBytes : Type 0 where
   pub byte : (b : ℕ) → inverse b < 256
   pub inverts : (b : ℕ) → b < 256 → (b ≡ 0 → ⊥) → product b (inverse b) ≡ 1
   pub of-zero : inverse 0 ≡ 0
-
--- SubBytes and InvSubBytes of a byte are bytes, and undo each other.
-pub record BoxesUndoEachOther : Type 0 where
-  pub sub-byte : (b : ℕ) → subByte b < 256
-  pub inv-sub-byte : (b : ℕ) → invSubByte b < 256
-  pub inv-sub : (b : ℕ) → b < 256 → invSubByte (subByte b) ≡ b
-  pub sub-inv : (b : ℕ) → b < 256 → subByte (invSubByte b) ≡ b

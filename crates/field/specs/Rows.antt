@@ -1,4 +1,4 @@
--- Four of a kind by their places: a row of the state, a column, a word.
+-- Four of a kind by their indices: a row of the state, a column, a word.
 use Prim.Native.Nat.{ℕ, _+_, _*_}
 use mathlib.Core.List.{List, [], _∷_}
 use lib.ListN.{getD}

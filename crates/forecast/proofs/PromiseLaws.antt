@@ -12,14 +12,14 @@ use Rattle.rules.proofs.Taken.{unit-bounds}
 use Rattle.modes.specs.declared.session.Session.{Session}
 use Rattle.modes.specs.declared.session.Fed.{Fed}
 use Rattle.modes.specs.Sessions.{Arrays, FedBy, fedText, openedSession, sessionText, sessionRuns, written}
-use Rattle.modes.specs.Machine.{Opening}
-use Rattle.modes.specs.Lists.{allFed, allRuns}
-use Rattle.modes.specs.Promises.{RunsAddUp}
+use Rattle.feeds.specs.Machine.{Opening}
+use Rattle.feeds.specs.Lists.{allFed, allRuns}
+use Rattle.feeds.specs.Promises.{RunsAddUp}
 use Rattle.modes.proofs.SessionLaws.{text-length, whole-none}
 use Rattle.modes.proofs.FeedLaws.{asked, accepted-count, accepted-whole, accepted-ready, accepted-output, accepted-runs, refused-runs}
 use Rattle.modes.proofs.OpeningLaws.{opened-session}
-use Rattle.modes.proofs.OpenedRuns.{opened-run}
-use Rattle.modes.proofs.RunLaws.{runs-add-up}
+use Rattle.feeds.proofs.OpenedFeeds.{opened-feeds}
+use Rattle.feeds.proofs.ListLaws.{runs-add-up}
 use Rattle.forecast.specs.declared.Cost.{Cost}
 use Rattle.forecast.specs.Costs.{forecastNumber, ForecastBy}
 use Rattle.forecast.specs.Promises.{RefusedForecast, NoBitsFree, AsForecast, ForecastHolds, MessageForecast}
@@ -77,7 +77,7 @@ pub message-forecast : MessageForecast
 unfolding MessageForecast RunsAddUp openedSession
 message-forecast mode dir n m key iv r calls t cost key-bytes iv-bytes opening taken run f small =
     let o : Opening = record { mode = mode; n = n; m = m; key = key; iv = iv } in
-    let q = opened-run o dir key-bytes iv-bytes opening taken run in
+    let q = opened-feeds o dir key-bytes iv-bytes opening taken run in
     let costs = accepted f (all-yes mode n (length (allFed calls)) (q .unit) small (q .whole)) in
     let none : r .session .units ≡ 0 = ap (λ (s : Session). s .units) (opened-session opening taken) in
     let runs : t .units ≡ allRuns calls = runs-add-up (r .session) t calls run ∙ ap (λ k. k + allRuns calls) none ∙ zero-add (allRuns calls) in

@@ -6,15 +6,17 @@ use mathlib.Core.List.{List, [], _∷_}
 use lib.Dec.{eqb, leb}
 use Rattle.bits.specs.Texts.{bytesFor}
 use Rattle.rules.specs.declared.Mode.{Mode}
-use Rattle.rules.specs.Lengths.{unitLengthOk, wholeUnits}
 use Rattle.rules.specs.Rules.{unitsIn}
-use Rattle.questions.specs.Questions.{Question, ask, maxBits}
+use Rattle.questions.specs.Questions.{Question, ask, maxBits, unitLength, unitsWhole}
 use Rattle.forecast.specs.declared.Cost.{Cost}
 
--- Questions 3, 6 and 7. Of question 6 the limit is asked alone: there is no input yet.
+-- Of question 6 the limit alone: there is no input yet.
+abbrev pub withinLimit : ℕ → Question
+withinLimit bits = record { yes = leb bits maxBits; number = 6 }
+
 unfoldable pub forecastQuestions : Mode → ℕ → ℕ → List Question
 forecastQuestions mode n bits =
-    record { yes = unitLengthOk mode n; number = 3 } ∷ record { yes = leb bits maxBits; number = 6 } ∷ record { yes = wholeUnits mode n bits; number = 7 } ∷ []
+    unitLength mode n ∷ withinLimit bits ∷ unitsWhole mode n bits ∷ []
 
 unfoldable pub forecastNumber : Mode → ℕ → ℕ → ℕ
 forecastNumber mode n bits = ask (forecastQuestions mode n bits)

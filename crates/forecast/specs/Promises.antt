@@ -15,7 +15,7 @@ use Rattle.modes.specs.declared.session.Session.{Session}
 use Rattle.modes.specs.declared.session.Opened.{Opened}
 use Rattle.modes.specs.declared.session.Fed.{Fed}
 use Rattle.modes.specs.Sessions.{Arrays, OpenedBy, FedBy, fedText, sessionText}
-use Rattle.modes.specs.Lists.{Call, Run, allFed, allRuns}
+use Rattle.feeds.specs.Lists.{Call, Feeds, allFed, allRuns}
 use Rattle.forecast.specs.declared.Cost.{Cost}
 use Rattle.forecast.specs.Costs.{ForecastBy}
 
@@ -61,7 +61,7 @@ ForecastHolds =
 -- was cut. It is at most as long as the largest feed, since no longer one has a forecast.
 unfoldable pub MessageForecast : Type 0
 MessageForecast =
-    (mode : Mode) (dir : Direction) (n m : ℕ) (key iv : List ℕ) (r : Opened) (calls : List Call) (t : Session) (cost : Cost)
-    → Bytes key → Bytes iv → OpenedBy mode dir n m key iv r → r .number ≡ 0 → Run (r .session) calls t
+    (mode : Mode) (dir : Direction) (n m : ℕ) (key iv : List ℕ) (r : Opened) (calls : List Call) (end : Session) (cost : Cost)
+    → Bytes key → Bytes iv → OpenedBy mode dir n m key iv r → r .number ≡ 0 → Feeds (r .session) calls end
     → ForecastBy mode n (length (allFed calls)) cost → length (allFed calls) ≤ maxBits
     → (cost .number ≡ 0) × (allRuns calls ≡ cost .runs)

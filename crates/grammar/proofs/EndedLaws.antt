@@ -10,10 +10,12 @@ use borrow.Author.Tests.{ltb-true, ltb-false, ne-eqb}
 use lib.Dec.{ltb, eqb}
 use lib.ListN.{length, take, drop, length-append}
 use lib.Seq.{length-take-le, take-append-le, drop-append-le}
-use Rattle.grammar.specs.Texts.{given, _>>=_, upTo, Cut, cut, hexBytes}
-use Rattle.grammar.specs.Grammar.{First, firstOf, HexLine, digitsFit, hexLine, behindFirst, request}
+use Rattle.digits.specs.Texts.{given, _>>=_, upTo, Cut, cut, hexBytes, digitsFit}
+use Rattle.header.specs.Header.{First, firstOf}
+use Rattle.grammar.specs.Grammar.{maxKeyDigits, maxDataDigits, HexLine, hexLine, behindFirst, request}
 use Rattle.grammar.specs.Reading.{isSome, LineForm, firstForm, digitsForm, textLines, byCut, endsIn, readingEnds}
-use Rattle.grammar.proofs.LineLaws.{cut-some, fit-size}
+use Rattle.digits.proofs.CutLaws.{cut-some}
+use Rattle.digits.proofs.DigitLaws.{fit-size}
 use Rattle.grammar.proofs.SizeLaws.{never, given-true, first-size}
 
 -- ---- the line that a text begins with, when more comes behind the text
@@ -143,8 +145,8 @@ first-line lines read behind =
 pub ended-refuses : (front more : List ℕ) → readingEnds front ≡ true → request (front ++ more) ≡ none
 unfolding readingEnds textLines request behindFirst
 ended-refuses =
-    first-line (digitsForm 128 ∷ digitsForm 128 ∷ digitsForm 8192 ∷ []) behindFirst
-    (λ first. hex-line 128 (digitsForm 128 ∷ digitsForm 8192 ∷ []) _
-    (λ key. hex-line 128 (digitsForm 8192 ∷ []) _
-    (λ iv. hex-line 8192 [] _
+    first-line (digitsForm maxKeyDigits ∷ digitsForm maxKeyDigits ∷ digitsForm maxDataDigits ∷ []) behindFirst
+    (λ first. hex-line maxKeyDigits (digitsForm maxKeyDigits ∷ digitsForm maxDataDigits ∷ []) _
+    (λ key. hex-line maxKeyDigits (digitsForm maxDataDigits ∷ []) _
+    (λ iv. hex-line maxDataDigits [] _
     (λ message. nothing-more (record { mode = first .mode; n = first .n; direction = first .direction; key = key; iv = iv; message = message })))))

@@ -7,10 +7,11 @@ use mathlib.Core.Option.{Option, none, some}
 use Prim.Native.Nat.{ℕ}
 use native.Mathlib.Omega.{arith}
 use borrow.Author.Tests.{lt-ltb, ne-eqb}
-use lib.Dec.{ltb, eqb}
+use lib.Dec.{eqb}
 use lib.ListN.{length}
-use Rattle.grammar.specs.Texts.{given, _>>=_, Cut, cut, hexBytes}
-use Rattle.grammar.specs.Grammar.{First, firstOf, HexLine, digitsFit, hexLine, behindFirst, request}
+use Rattle.digits.specs.Texts.{given, _>>=_, Cut, cut, hexBytes, digitsFit}
+use Rattle.header.specs.Header.{First, firstOf}
+use Rattle.grammar.specs.Grammar.{maxKeyDigits, maxDataDigits, HexLine, hexLine, behindFirst, request}
 use Rattle.grammar.specs.Reading.{isSome, LineForm, firstForm, digitsForm, textLines, byCut, endsIn, readingEnds, openIn, EndsExactly}
 use Rattle.grammar.proofs.EndedLaws.{bind-bind}
 
@@ -72,8 +73,8 @@ first-line lines read behind =
 pub ends-exactly : EndsExactly
 unfolding EndsExactly readingEnds textLines request behindFirst
 ends-exactly =
-    first-line (digitsForm 128 ∷ digitsForm 128 ∷ digitsForm 8192 ∷ []) behindFirst
-    (λ first. hex-line 128 (digitsForm 128 ∷ digitsForm 8192 ∷ []) _
-    (λ key. hex-line 128 (digitsForm 8192 ∷ []) _
-    (λ iv. hex-line 8192 [] _
+    first-line (digitsForm maxKeyDigits ∷ digitsForm maxKeyDigits ∷ digitsForm maxDataDigits ∷ []) behindFirst
+    (λ first. hex-line maxKeyDigits (digitsForm maxKeyDigits ∷ digitsForm maxDataDigits ∷ []) _
+    (λ key. hex-line maxKeyDigits (digitsForm maxDataDigits ∷ []) _
+    (λ iv. hex-line maxDataDigits [] _
     (λ message. nothing-more (record { mode = first .mode; n = first .n; direction = first .direction; key = key; iv = iv; message = message })))))

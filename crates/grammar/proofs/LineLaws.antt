@@ -1,39 +1,21 @@
--- A line or a word that was found, and what a line of digits then is. Assumes nothing.
+-- A line of digits that was found, and what it then is. Assumes nothing.
 use mathlib.Core.Path.{_≡_, sym, ap, subst, _∙_}
-use mathlib.Core.Bool.{_&&_}
 use mathlib.Core.List.{List}
 use mathlib.Core.Option.{none, some}
-use Prim.Native.Nat.{ℕ, _+_, _-_, _%_, _≤_, _<_}
-use native.Mathlib.Nat.{le-of-lt, le-of-eq, add-assoc}
+use Prim.Native.Nat.{ℕ, _+_, _-_, _≤_, _<_}
+use native.Mathlib.Nat.{le-of-lt, add-assoc}
 use native.Mathlib.Omega.{arith}
 use mathlib.Core.Bool.{true, false}
-use borrow.Author.Tests.{leb-true, lt-ltb, le-ltb, eq-eqb, ne-eqb}
-use lib.Dec.{leb, eqb}
+use borrow.Author.Tests.{eq-eqb, ne-eqb}
+use lib.Dec.{eqb}
 use lib.ListN.{length, take, drop, length-drop}
-use lib.Seq.{length-take-le, take-all, drop-drop}
-use Rattle.grammar.specs.Texts.{given, upTo, cut, all, isHex}
+use lib.Seq.{length-take-le, drop-drop}
+use Rattle.digits.specs.Texts.{given, upTo, digitsFit}
+use Rattle.digits.proofs.CutLaws.{part-rest, cut-none, cut-some}
+use Rattle.digits.proofs.DigitLaws.{fit-size}
 use Rattle.grammar.specs.declared.form.Digits.{Digits}
-use Rattle.grammar.specs.Grammar.{digitsFit, hexLine}
+use Rattle.grammar.specs.Grammar.{hexLine}
 use Rattle.grammar.specs.Answers.{bytesAt, lineIn, LineFits, LinePlaced, LineRead}
-use Rattle.grammar.proofs.RangeLaws.{and-first}
-
--- a part that is lent from a place to the end
-pub part-rest : (s : List ℕ) (a : ℕ) → take (length s - a) (drop a s) ≡ drop a s
-part-rest s a = take-all (length s - a) (drop a s) (le-of-eq (length-drop a s))
-
-module _ (stop : ℕ) (s : List ℕ) (len : ℕ) (e : len ≡ upTo stop s) where
-  pub cut-none : length s ≤ len → cut stop s ≡ none
-  unfolding cut
-  cut-none h = rw (le-ltb (upTo stop s) (length s) (rw e at h))
-
-  pub cut-some : len < length s → cut stop s ≡ some (record { before = take len s; behind = drop (len + 1) s })
-  unfolding cut
-  cut-some h = rw (e, lt-ltb (upTo stop s) (length s) (rw e at h))
-
-pub fit-size : (limit : ℕ) (w : List ℕ) → digitsFit limit w ≡ true → length w ≤ limit
-fit-size limit w e =
-    let even = eqb (length w % 2) 0 in
-    leb-true (length w) limit (and-first (leb (length w) limit) even (and-first (leb (length w) limit && even) (all isHex w) e))
 
 -- ---- a line of digits, `len` bytes from `start` on: `rest` is the part that was searched
 

@@ -9,19 +9,20 @@ use borrow.Author.Tests.{lt-ltb, le-ltb, ltb-true, ltb-false}
 use lib.Dec.{ltb}
 use lib.ListN.{length, take, drop, length-drop}
 use lib.Seq.{drop-cons, drop-drop}
-use Rattle.grammar.specs.Texts.{upTo}
-use Rattle.grammar.specs.Grammar.{digitsFit}
+use Rattle.digits.specs.Texts.{upTo, digitsFit}
+use Rattle.grammar.specs.Grammar.{maxKeyDigits, maxDataDigits}
 use Rattle.grammar.specs.Reading.{digitsForm, textLines, lineForm, endsIn}
-use Rattle.grammar.proofs.LineLaws.{rest, part-rest, cut-none, cut-some}
+use Rattle.grammar.proofs.LineLaws.{rest}
+use Rattle.digits.proofs.CutLaws.{part-rest, cut-none, cut-some}
 
-pub most-hex : (line : ℕ) → (line ≡ 0 → ⊥) → line < 3 → lineForm line .most ≡ 128
+pub most-hex : (line : ℕ) → (line ≡ 0 → ⊥) → line < 3 → lineForm line .most ≡ maxKeyDigits
 unfolding textLines
 most-hex zero other h = absurd (other refl)
 most-hex (suc zero) other h = refl
 most-hex (suc (suc zero)) other h = refl
 most-hex (suc (suc (suc line))) other h = absurd (omega arith)
 
-pub most-last : (line : ℕ) → 3 ≤ line → lineForm line .most ≡ 8192
+pub most-last : (line : ℕ) → 3 ≤ line → lineForm line .most ≡ maxDataDigits
 unfolding textLines
 most-last zero h = absurd (omega arith)
 most-last (suc zero) h = absurd (omega arith)
@@ -46,7 +47,7 @@ endsFrom s line start = endsIn (drop line textLines) (drop start s)
 module _ (s : List ℕ) (line start len : ℕ) (e : len ≡ upTo 10 (rest s start)) (more : line < 4) where
   next-due : drop line textLines ≡ lineForm line ∷ drop (line + 1) textLines
   unfolding textLines
-  next-due = rw (drop-cons textLines line (digitsForm 8192) more, add-one)
+  next-due = rw (drop-cons textLines line (digitsForm maxDataDigits) more, add-one)
 
   found : len ≡ upTo 10 (drop start s)
   found = rw part-rest at e

@@ -11,12 +11,12 @@ use lib.Dec.{leb, ltb, eqb}
 use lib.ListN.{length, take, drop, length-take, length-drop}
 use Rattle.rules.specs.declared.Mode.{Mode}
 use Rattle.rules.specs.declared.Direction.{Direction}
-use Rattle.grammar.specs.Texts.{given, _>>=_, upTo, Cut, cut, all, isDecimal, countOn, hexBytes}
-use Rattle.grammar.specs.Grammar.{modeOf, lengthOf, directionOf, First, behindMode, firstOf, HexLine, digitsFit, hexLine, Request, behindFirst, request}
-use Rattle.grammar.proofs.RangeLaws.{and-first, and-second}
-use Rattle.grammar.proofs.WordLaws.{same-other}
-use Rattle.grammar.proofs.DigitLaws.{length-hexBytes}
-use Rattle.grammar.proofs.LineLaws.{fit-size}
+use Rattle.digits.specs.Texts.{given, _>>=_, upTo, Cut, cut, all, isDecimal, countOn, hexBytes, digitsFit}
+use Rattle.header.specs.Header.{modeOf, lengthOf, directionOf, First, behindMode, firstOf}
+use Rattle.grammar.specs.Grammar.{maxKeyDigits, maxDataDigits, HexLine, hexLine, Request, behindFirst, request}
+use Rattle.digits.proofs.RangeLaws.{and-first, and-second}
+use Rattle.header.proofs.WordLaws.{same-other}
+use Rattle.digits.proofs.DigitLaws.{length-hexBytes, fit-size}
 
 -- ---- what an answer that is there tells of the steps to it
 
@@ -88,16 +88,16 @@ hex-size limit s e =
     let (fit, is) = given-true (digitsFit limit w) {a = record { bytes = hexBytes w; behind = line .behind }} e in
     rw (← is) (omega (arith, cut-size 10 s found, fit-size limit w fit)))
 
-behind-first-size : (first : First) (s : List ℕ) {q : Request} → behindFirst first s ≡ some q → length s ≤ 129 + 129 + 8193
+behind-first-size : (first : First) (s : List ℕ) {q : Request} → behindFirst first s ≡ some q → length s ≤ maxKeyDigits + 1 + (maxKeyDigits + 1) + (maxDataDigits + 1)
 unfolding behindFirst
 behind-first-size first s e =
-    bound (hexLine 128 s) e
-    (λ key k e. bound (hexLine 128 (key .behind)) e
-    (λ iv i e. bound (hexLine 8192 (iv .behind)) e
+    bound (hexLine maxKeyDigits s) e
+    (λ key k e. bound (hexLine maxKeyDigits (key .behind)) e
+    (λ iv i e. bound (hexLine maxDataDigits (iv .behind)) e
     (λ message m e.
     let q : Request = record { mode = first .mode; n = first .n; direction = first .direction; key = key .bytes; iv = iv .bytes; message = message .bytes } in
     let end = given-true (eqb (length (message .behind)) 0) {a = q} e .0 in
-    omega (arith, hex-size 128 s k, hex-size 128 (key .behind) i, hex-size 8192 (iv .behind) m, eqb-true (length (message .behind)) 0 end))))
+    omega (arith, hex-size maxKeyDigits s k, hex-size maxKeyDigits (key .behind) i, hex-size maxDataDigits (iv .behind) m, eqb-true (length (message .behind)) 0 end))))
 
 request-size : (s : List ℕ) {q : Request} → request s ≡ some q → length s ≤ 8461
 unfolding request
@@ -117,17 +117,17 @@ hex-bytes limit s e =
     let (fit, is) = given-true (digitsFit limit w) {a = record { bytes = hexBytes w; behind = line .behind }} e in
     rw (← is) (omega (arith, length-hexBytes w, fit-size limit w fit)))
 
-message-behind : (first : First) (s : List ℕ) {q : Request} → behindFirst first s ≡ some q → length (q .message) ≤ 4096
+message-behind : (first : First) (s : List ℕ) {q : Request} → behindFirst first s ≡ some q → length (q .message) ≤ maxDataDigits / 2
 unfolding behindFirst
 message-behind first s e =
-    bound (hexLine 128 s) e
-    (λ key k e. bound (hexLine 128 (key .behind)) e
-    (λ iv i e. bound (hexLine 8192 (iv .behind)) e
+    bound (hexLine maxKeyDigits s) e
+    (λ key k e. bound (hexLine maxKeyDigits (key .behind)) e
+    (λ iv i e. bound (hexLine maxDataDigits (iv .behind)) e
     (λ message m e.
     let q : Request = record { mode = first .mode; n = first .n; direction = first .direction; key = key .bytes; iv = iv .bytes; message = message .bytes } in
-    rw (← given-true (eqb (length (message .behind)) 0) {a = q} e .1) (hex-bytes 8192 (iv .behind) m))))
+    rw (← given-true (eqb (length (message .behind)) 0) {a = q} e .1) (hex-bytes maxDataDigits (iv .behind) m))))
 
-pub message-size : (s : List ℕ) {q : Request} → request s ≡ some q → length (q .message) ≤ 4096
+pub message-size : (s : List ℕ) {q : Request} → request s ≡ some q → length (q .message) ≤ maxDataDigits / 2
 unfolding request
 message-size s e =
     bound (cut 10 s) e (λ line found e. bound (firstOf (line .before)) e (λ first is e. message-behind first (line .behind) e))

@@ -4,42 +4,18 @@ use mathlib.Core.Path.{_≡_}
 use mathlib.Core.List.{List}
 use mathlib.Core.Option.{Option, none, some}
 use lib.ListN.{length, take, drop}
-use Rattle.rules.specs.declared.Mode.{Mode}
-use Rattle.rules.specs.declared.Direction.{Direction}
-use Rattle.grammar.specs.declared.header.ModeWord.{ModeWord}
-use Rattle.grammar.specs.declared.header.DirectionWord.{DirectionWord}
-use Rattle.grammar.specs.declared.header.Decimal.{Decimal}
-use Rattle.grammar.specs.declared.header.Header.{Header}
 use Rattle.grammar.specs.declared.form.Digits.{Digits}
 use Rattle.grammar.specs.declared.form.Form.{Form}
-use Rattle.grammar.specs.Texts.{upTo, hexBytes}
-use Rattle.grammar.specs.Grammar.{First, HexLine, hexLine, Request}
+use Rattle.digits.specs.Texts.{upTo, hexBytes}
+use Rattle.grammar.specs.Grammar.{maxKeyDigits, maxDataDigits, HexLine, hexLine, Request}
 
--- ---- of the first line
+-- ---- of a line of digits that starts at an index of s
 
-abbrev pub modeIn : ModeWord → Option Mode
-modeIn (ModeWord.Named mode) = some mode
-modeIn ModeWord.Bad = none
-
-abbrev pub directionIn : DirectionWord → Option Direction
-directionIn (DirectionWord.Named direction) = some direction
-directionIn DirectionWord.Bad = none
-
-abbrev pub numberIn : Decimal → Option ℕ
-numberIn (Decimal.Number n) = some n
-numberIn Decimal.Bad = none
-
-abbrev pub firstIn : Header → Option First
-firstIn (Header.Line mode n direction) = some (record { mode = mode; n = n; direction = direction })
-firstIn Header.Bad = none
-
--- ---- of a line of digits that starts at a place of s
-
--- The bytes of so many digits from a place on.
+-- The bytes of so many digits from an index on.
 abbrev pub bytesAt : List ℕ → ℕ → ℕ → List ℕ
 bytesAt s start len = hexBytes (take len (drop start s))
 
--- `next` is the place behind its line feed.
+-- `next` is the index behind its line feed.
 abbrev pub lineIn : List ℕ → ℕ → Digits → Option HexLine
 lineIn s start (Digits.Line len next) = some (record { bytes = bytesAt s start len; behind = drop next s })
 lineIn s start Digits.Bad = none
@@ -48,7 +24,7 @@ abbrev pub LineFits : ℕ → List ℕ → ℕ → Digits → Type 0
 LineFits limit s start (Digits.Line len next) = (start + len ≤ length s) × (len ≤ limit) × (next ≤ length s)
 LineFits limit s start Digits.Bad = Unit
 
--- Its digits go up to the line feed, and `next` is the place after that.
+-- Its digits go up to the line feed, and `next` is the index after that.
 abbrev pub LinePlaced : List ℕ → ℕ → Digits → Type 0
 LinePlaced s start (Digits.Line len next) = (len ≡ upTo 10 (drop start s)) × (next ≡ start + len + 1)
 LinePlaced s start Digits.Bad = Unit
@@ -75,11 +51,11 @@ requestIn s Form.Bad = none
 
 pub record Within (s : List ℕ) (key key-len iv iv-len message message-len : ℕ) : Type 0 where
   pub key-inside : key + key-len ≤ length s
-  pub key-size : key-len ≤ 128
+  pub key-size : key-len ≤ maxKeyDigits
   pub iv-inside : iv + iv-len ≤ length s
-  pub iv-size : iv-len ≤ 128
+  pub iv-size : iv-len ≤ maxKeyDigits
   pub message-inside : message + message-len ≤ length s
-  pub message-size : message-len ≤ 8192
+  pub message-size : message-len ≤ maxDataDigits
 
 abbrev pub FormFits : List ℕ → Form → Type 0
 FormFits s (Form.Lines mode n direction key key-len iv iv-len message message-len) = Within s key key-len iv iv-len message message-len

@@ -1,77 +1,32 @@
 -- Document 01, "The text program": the form of the four lines.
 --
 --     text   = first hex hex hex          nothing follows
---     first  = mode ' ' n ' ' way LF
---     mode   = 'ECB' | 'CBC' | 'CFB' | 'OFB' | 'CTR'
---     n      = one to three decimal digits
---     way    = 'E' | 'D'
+--     first  = mode ' ' n ' ' way LF       (crates/header/specs)
 --     hex    = an even count of digits 0 to 9, a to f, then LF; at most 128 (key), 128 (IV), 8,192 (data)
 --
--- A line feed is byte 10, a space 32. No line holds a line feed and no word a space, so each line ends at the first line feed
--- and each word at the first space.
-use Prim.Native.Nat.{ℕ, _%_}
-use mathlib.Core.Bool.{Bool, true, false, cond, _&&_}
-use mathlib.Core.List.{List, [], _∷_}
-use mathlib.Core.Option.{Option, none, some}
-use lib.Dec.{leb, eqb}
+-- A line feed is byte 10. No line holds one, so each line ends at the first line feed.
+use Prim.Native.Nat.{ℕ}
+use mathlib.Core.List.{List}
+use mathlib.Core.Option.{Option}
+use lib.Dec.{eqb}
 use lib.ListN.{length}
 use Rattle.rules.specs.declared.Mode.{Mode}
-use Rattle.rules.specs.declared.Mode.the-variants.{Ecb, Cbc, Cfb, Ofb, Ctr}
 use Rattle.rules.specs.declared.Direction.{Direction}
-use Rattle.rules.specs.declared.Direction.the-variants.{Encrypt, Decrypt}
-use Rattle.grammar.specs.Texts.{given, _>>=_, Cut, cut, all, isDecimal, isHex, countOn, hexBytes}
+use Rattle.digits.specs.Texts.{given, _>>=_, Cut, cut, digitsFit, hexBytes}
+use Rattle.header.specs.Header.{First, firstOf}
 
--- ---- the first line
+-- ---- the lines of digits
 
--- Are the texts equal?
-unfoldable pub same : List ℕ → List ℕ → Bool
-same [] [] = true
-same [] (b ∷ t) = false
-same (a ∷ s) [] = false
-same (a ∷ s) (b ∷ t) = eqb a b && same s t
+-- The most digits of a line: of the key's and the IV's, and of the data's.
+abbrev pub maxKeyDigits : ℕ
+maxKeyDigits = 128
 
-unfoldable pub modeOf : List ℕ → Option Mode
-modeOf w =
-    cond (same w (69 ∷ 67 ∷ 66 ∷ [])) (some Ecb)
-    (cond (same w (67 ∷ 66 ∷ 67 ∷ [])) (some Cbc)
-    (cond (same w (67 ∷ 70 ∷ 66 ∷ [])) (some Cfb)
-    (cond (same w (79 ∷ 70 ∷ 66 ∷ [])) (some Ofb)
-    (cond (same w (67 ∷ 84 ∷ 82 ∷ [])) (some Ctr) none))))
-
-unfoldable pub lengthOf : List ℕ → Option ℕ
-lengthOf w = given (leb 1 (length w) && leb (length w) 3 && all isDecimal w) (countOn 0 w)
-
-unfoldable pub directionOf : List ℕ → Option Direction
-directionOf w = cond (same w (69 ∷ [])) (some Encrypt) (cond (same w (68 ∷ [])) (some Decrypt) none)
-
-pub record First : Type 0 where
-  pub mode : Mode
-  pub n : ℕ
-  pub direction : Direction
-
--- What stands behind the mode and its space.
-unfoldable pub behindMode : Mode → List ℕ → Option First
-behindMode mode words = do
-  number ← cut 32 words
-  n ← lengthOf (number .before)
-  direction ← directionOf (number .behind)
-  some (record { mode = mode; n = n; direction = direction })
-
-unfoldable pub firstOf : List ℕ → Option First
-firstOf line = do
-  name ← cut 32 line
-  mode ← modeOf (name .before)
-  behindMode mode (name .behind)
-
--- ---- the other three
+abbrev pub maxDataDigits : ℕ
+maxDataDigits = 8192
 
 pub record HexLine : Type 0 where
   pub bytes : List ℕ
   pub behind : List ℕ
-
--- An even count of digits, at most so many.
-abbrev pub digitsFit : ℕ → List ℕ → Bool
-digitsFit limit w = leb (length w) limit && eqb (length w % 2) 0 && all isHex w
 
 -- The line that a text begins with, as bytes, and what follows the line.
 unfoldable pub hexLine : ℕ → List ℕ → Option HexLine
@@ -92,9 +47,9 @@ pub record Request : Type 0 where
 -- What stands behind the first line: key, IV, data, and nothing more.
 unfoldable pub behindFirst : First → List ℕ → Option Request
 behindFirst first s = do
-  key ← hexLine 128 s
-  iv ← hexLine 128 (key .behind)
-  message ← hexLine 8192 (iv .behind)
+  key ← hexLine maxKeyDigits s
+  iv ← hexLine maxKeyDigits (key .behind)
+  message ← hexLine maxDataDigits (iv .behind)
   given (eqb (length (message .behind)) 0)
       (record {
         mode = first .mode;

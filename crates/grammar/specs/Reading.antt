@@ -8,8 +8,9 @@ use mathlib.Core.List.{List, [], _∷_}
 use mathlib.Core.Option.{Option, none, some}
 use lib.Dec.{ltb}
 use lib.ListN.{length, getD}
-use Rattle.grammar.specs.Texts.{Cut, cut}
-use Rattle.grammar.specs.Grammar.{firstOf, digitsFit, request}
+use Rattle.digits.specs.Texts.{Cut, cut, digitsFit}
+use Rattle.header.specs.Header.{firstOf}
+use Rattle.grammar.specs.Grammar.{maxKeyDigits, maxDataDigits, request}
 
 abbrev pub isSome : {A : Type 0} → Option A → Bool
 isSome none = false
@@ -28,11 +29,11 @@ digitsForm limit = record { most = limit; good = digitsFit limit }
 
 -- The first line, the key, the IV and the data.
 unfoldable pub textLines : List LineForm
-textLines = firstForm ∷ digitsForm 128 ∷ digitsForm 128 ∷ digitsForm 8192 ∷ []
+textLines = firstForm ∷ digitsForm maxKeyDigits ∷ digitsForm maxKeyDigits ∷ digitsForm maxDataDigits ∷ []
 
 -- The form of a line, counted from 0.
 abbrev pub lineForm : ℕ → LineForm
-lineForm line = getD textLines line (digitsForm 8192)
+lineForm line = getD textLines line (digitsForm maxDataDigits)
 
 -- What is said of the line that a text begins with: while it is open, and once it is complete.
 abbrev pub byCut : Option Cut → Bool → (Cut → Bool) → Bool

@@ -1,17 +1,23 @@
 // The four lines.
-use crate::header::Header;
-use crate::header::first_line;
-use crate::hex::digits_fit;
-use crate::scan::up_to;
+use digits::digits_fit;
+use digits::up_to;
+use header::Header;
+use header::first_line;
 use rules::Direction;
 use rules::Mode;
 ghost use Prim.Native.Nat.{_+_, _≤_};
 ghost use lib.ListN.{length, drop};
-ghost use Rattle.grammar.specs.Texts.{upTo};
+ghost use Rattle.digits.specs.Texts.{upTo};
 ghost use Rattle.grammar.specs.Grammar.{behindFirst, request};
 ghost use Rattle.grammar.specs.Answers.{LineRead, FormRead};
 
-// A line of digits: how many they are, and the place behind the line feed.
+// The most digits of the key's line, and of the IV's.
+pub const MAX_KEY_DIGITS: usize = 128;
+
+// The most digits of the data's line.
+pub const MAX_DATA_DIGITS: usize = 8192;
+
+// A line of digits: how many they are, and the index behind the line feed.
 pub enum Digits {
     Line { len: usize, next: usize },
     Bad,
@@ -33,7 +39,7 @@ pub enum Form {
     Bad,
 }
 
-// The line that starts at a place of `s`, as digits: lower-case hexadecimal, an even count, at most `limit`.
+// The line that starts at an index of `s`, as digits: lower-case hexadecimal, an even count, at most `limit`.
 fn digits_line(s: &[u8], start: usize, limit: usize) -> Digits
     requires { ⌜ start ≤ length (now s) ⌝ }
     ensures { λ r. ⌜ LineRead limit (now (s .entry)) start r ⌝ }
@@ -60,21 +66,21 @@ fn behind_first(mode: Mode, n: usize, direction: Direction, s: &[u8], key: usize
     let Digits::Line {
         len: key_len,
         next: iv,
-    } = digits_line(s, key, 128)
+    } = digits_line(s, key, MAX_KEY_DIGITS)
     else {
         return Form::Bad;
     };
     let Digits::Line {
         len: iv_len,
         next: data,
-    } = digits_line(s, iv, 128)
+    } = digits_line(s, iv, MAX_KEY_DIGITS)
     else {
         return Form::Bad;
     };
     let Digits::Line {
         len: data_len,
         next: end,
-    } = digits_line(s, data, 8192)
+    } = digits_line(s, data, MAX_DATA_DIGITS)
     else {
         return Form::Bad;
     };

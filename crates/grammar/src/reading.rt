@@ -1,8 +1,10 @@
 // Document 01: "a line that isn't of this form ends the program's reading".
-use crate::header::Header;
-use crate::header::first_line;
-use crate::hex::digits_fit;
-use crate::scan::up_to;
+use crate::form::MAX_DATA_DIGITS;
+use crate::form::MAX_KEY_DIGITS;
+use digits::digits_fit;
+use digits::up_to;
+use header::Header;
+use header::first_line;
 ghost use mathlib.Core.Path.{_≡_};
 ghost use Rattle.grammar.specs.Reading.{firstForm, lineForm, readingEnds};
 
@@ -14,9 +16,9 @@ fn most(line: usize) -> usize
         return 9;
     }
     if line < 3 {
-        return 128;
+        return MAX_KEY_DIGITS;
     }
-    8192
+    MAX_DATA_DIGITS
 }
 
 fn first_good(text: &[u8]) -> bool

@@ -1,48 +1,20 @@
 -- The test of `alike` says what it means, both ways. Assumes nothing.
 use Prim.Native.Nat.{ℕ, zero, suc, _≤_}
 use mathlib.Core.Path.{_≡_, refl, sym, ap, _∙_}
-use mathlib.Core.Bool.{true, and-eq-true-iff}
+use mathlib.Core.Bool.{Bool, true, false, Bool·beq, and-eq-true-iff}
 use mathlib.Core.List.{List}
 use native.Mathlib.Nat.{le-of-eq}
 use native.Mathlib.Omega.{arith}
 use borrow.Author.Tests.{eq-eqb, eqb-true}
 use lib.ListN.{length, take}
 use lib.Seq.{take-all}
-use Rattle.rules.specs.declared.Mode.{Mode}
-use Rattle.rules.specs.declared.Mode.the-variants.{Ecb, Cbc, Cfb, Ofb, Ctr}
-use Rattle.rules.specs.declared.Direction.{Direction}
-use Rattle.rules.specs.declared.Direction.the-variants.{Encrypt, Decrypt}
+use Rattle.rules.specs.Numbers.{modeNumber, modeOf, isDecrypt, directionOf}
+use Rattle.rules.proofs.NumberLaws.{mode-again, direction-again}
 use Rattle.modes.specs.declared.session.Session.{Session}
-use Rattle.inspect.specs.Alike.{keysUsed, Alike, modeIndex, directionIndex, sameSettings, alikeTo}
+use Rattle.inspect.specs.Alike.{keysUsed, Alike, sameSettings, alikeTo}
 use Rattle.modes.specs.Sessions.{Arrays}
 use Rattle.inspect.specs.Promises.{AlikeExactly}
 use Rattle.inspect.proofs.SameLaws.{same-means, means-same}
-
--- ---- modes and directions by their numbers
-
-modeOf : ℕ → Mode
-modeOf zero = Ecb
-modeOf (suc zero) = Cbc
-modeOf (suc (suc zero)) = Cfb
-modeOf (suc (suc (suc zero))) = Ofb
-modeOf (suc (suc (suc (suc k)))) = Ctr
-
-mode-of : (m : Mode) → modeOf (modeIndex m) ≡ m
-unfolding modeOf modeIndex
-mode-of Ecb = refl
-mode-of Cbc = refl
-mode-of Cfb = refl
-mode-of Ofb = refl
-mode-of Ctr = refl
-
-directionOf : ℕ → Direction
-directionOf zero = Encrypt
-directionOf (suc k) = Decrypt
-
-direction-of : (d : Direction) → directionOf (directionIndex d) ≡ d
-unfolding directionOf directionIndex
-direction-of Encrypt = refl
-direction-of Decrypt = refl
 
 -- ---- the whole test
 
@@ -52,6 +24,19 @@ keys-inside rounds = omega arith
 
 whole : (r : List ℕ) → length r ≡ 16 → take 16 r ≡ r
 whole r e = take-all 16 r (le-of-eq e)
+
+flags-same : (a b : Bool) → Bool·beq a b ≡ true → a ≡ b
+flags-same true true e = refl
+flags-same true false e = sym e
+flags-same false true e = e
+flags-same false false e = refl
+
+flag-itself : (a : Bool) → Bool·beq a a ≡ true
+flag-itself true = refl
+flag-itself false = refl
+
+same-flags : {a b : Bool} → a ≡ b → Bool·beq a b ≡ true
+same-flags {a} {b} e = rw e (flag-itself b)
 
 module _ (a b : Session) where
   test-means : Arrays a → Arrays b → alikeTo a b ≡ true → Alike a b
@@ -65,8 +50,8 @@ module _ (a b : Session) where
       let (mode, direction) = and-eq-true-iff _ _ .0 e3 in
       let used = keys-inside (a .rounds) in
       record {
-        mode = sym (mode-of (a .mode)) ∙ ap modeOf (eqb-true _ _ mode) ∙ mode-of (b .mode);
-        direction = sym (direction-of (a .direction)) ∙ ap directionOf (eqb-true _ _ direction) ∙ direction-of (b .direction);
+        mode = sym (mode-again (a .mode)) ∙ ap modeOf (eqb-true _ _ mode) ∙ mode-again (b .mode);
+        direction = sym (direction-again (a .direction)) ∙ ap directionOf (flags-same _ _ direction) ∙ direction-again (b .direction);
         unit = eqb-true _ _ unit;
         counter = eqb-true _ _ counter;
         rounds = eqb-true _ _ rounds;
@@ -78,8 +63,8 @@ module _ (a b : Session) where
   unfolding alikeTo sameSettings
   means-test h =
       rw (
-        eq-eqb _ _ (ap modeIndex (h .mode)),
-        eq-eqb _ _ (ap directionIndex (h .direction)),
+        eq-eqb _ _ (ap modeNumber (h .mode)),
+        same-flags (ap isDecrypt (h .direction)),
         eq-eqb _ _ (h .unit),
         eq-eqb _ _ (h .counter),
         eq-eqb _ _ (h .rounds),

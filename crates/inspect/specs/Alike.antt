@@ -1,14 +1,11 @@
 -- Document 01, "Padding, one block, comparison": when two sessions are alike, as a test and as what it means.
 use Prim.Native.Nat.{ℕ, zero, suc, _+_, _*_, min}
 use mathlib.Core.Path.{_≡_}
-use mathlib.Core.Bool.{Bool, true, _&&_}
+use mathlib.Core.Bool.{Bool, true, _&&_, Bool·beq}
 use mathlib.Core.List.{List}
 use lib.Dec.{eqb}
 use lib.ListN.{getD, take}
-use Rattle.rules.specs.declared.Mode.{Mode}
-use Rattle.rules.specs.declared.Mode.the-variants.{Ecb, Cbc, Cfb, Ofb, Ctr}
-use Rattle.rules.specs.declared.Direction.{Direction}
-use Rattle.rules.specs.declared.Direction.the-variants.{Encrypt, Decrypt}
+use Rattle.rules.specs.Numbers.{modeNumber, isDecrypt}
 use Rattle.modes.specs.declared.session.Session.{Session}
 
 -- The first 16 × (rounds + 1) round key bytes, at most 240.
@@ -27,17 +24,6 @@ pub record Alike (a b : Session) : Type 0 where
 
 -- ---- the test
 
-unfoldable pub modeIndex : Mode → ℕ
-modeIndex Ecb = 0
-modeIndex Cbc = 1
-modeIndex Cfb = 2
-modeIndex Ofb = 3
-modeIndex Ctr = 4
-
-unfoldable pub directionIndex : Direction → ℕ
-directionIndex Encrypt = 0
-directionIndex Decrypt = 1
-
 -- Do two lists have the same first k bytes?
 unfoldable pub sameFirst : ℕ → List ℕ → List ℕ → Bool
 sameFirst zero a b = true
@@ -45,7 +31,7 @@ sameFirst (suc k) a b = eqb (getD a k 0) (getD b k 0) && sameFirst k a b
 
 unfoldable pub sameSettings : Session → Session → Bool
 sameSettings a b =
-    eqb (modeIndex (a .mode)) (modeIndex (b .mode)) && eqb (directionIndex (a .direction)) (directionIndex (b .direction))
+    eqb (modeNumber (a .mode)) (modeNumber (b .mode)) && Bool·beq (isDecrypt (a .direction)) (isDecrypt (b .direction))
     && eqb (a .n) (b .n) && eqb (a .m) (b .m) && eqb (a .rounds) (b .rounds)
 
 unfoldable pub alikeTo : Session → Session → Bool

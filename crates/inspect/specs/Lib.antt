@@ -1,4 +1,3 @@
--- What the calls on one CBC block and the comparison of sessions answer, and what is promised of them.
-pub mod Single
+-- When two sessions are alike, and what is promised of the test.
 pub mod Alike
 pub mod Promises

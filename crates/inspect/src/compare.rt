@@ -1,32 +1,9 @@
 // Whether two sessions are alike. Their units and their closing are not compared.
 use modes::Session;
-use rules::Direction;
-use rules::Mode;
 ghost use mathlib.Core.Path.{_≡_};
 ghost use Prim.Native.Nat.{_≤_};
 ghost use lib.ListN.{length};
-ghost use Rattle.inspect.specs.Alike.{modeIndex, directionIndex, keysUsed, sameFirst, sameSettings, alikeTo};
-
-fn mode_index(mode: Mode) -> u8
-    ensures { λ r. ⌜ r ≡ modeIndex mode ⌝ }
-{
-    match mode {
-        Mode::Ecb => 0,
-        Mode::Cbc => 1,
-        Mode::Cfb => 2,
-        Mode::Ofb => 3,
-        Mode::Ctr => 4,
-    }
-}
-
-fn direction_index(direction: Direction) -> u8
-    ensures { λ r. ⌜ r ≡ directionIndex direction ⌝ }
-{
-    match direction {
-        Direction::Encrypt => 0,
-        Direction::Decrypt => 1,
-    }
-}
+ghost use Rattle.inspect.specs.Alike.{keysUsed, sameFirst, sameSettings, alikeTo};
 
 // How many round key bytes are compared. The rounds may be any number.
 fn keys_used(rounds: usize) -> usize
@@ -58,12 +35,12 @@ fn same_settings(a: Session, b: Session) -> bool
 {
     let mode = a.mode;
     let other_mode = b.mode;
-    if mode_index(mode) != mode_index(other_mode) {
+    if rules::mode_number(mode) != rules::mode_number(other_mode) {
         return false;
     }
     let direction = a.direction;
     let other_direction = b.direction;
-    if direction_index(direction) != direction_index(other_direction) {
+    if rules::decrypts(direction) != rules::decrypts(other_direction) {
         return false;
     }
     if a.n != b.n {

@@ -13,8 +13,8 @@ use Rattle.modes.specs.declared.session.Fed.{Fed}
 use Rattle.modes.specs.Sessions.{Arrays, FedBy, fedText, sessionText, feedNumber, written}
 use Rattle.modes.proofs.SessionLaws.{text-length}
 use Rattle.modes.proofs.FeedLaws.{accepted-ready, accepted-whole, accepted-count}
-use Rattle.grammar.specs.Texts.{hexBytes, decodedInto}
-use Rattle.grammar.proofs.DigitLaws.{length-hexBytes}
+use Rattle.digits.specs.Texts.{hexBytes, decodedInto}
+use Rattle.digits.proofs.DigitLaws.{length-hexBytes}
 use Rattle.lines.specs.Answer.{lineOf, fedLine}
 use Rattle.lines.proofs.WrittenLines.{refused-line}
 use Rattle.lines.proofs.NumberBounds.{feed-prints}

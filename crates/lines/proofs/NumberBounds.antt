@@ -11,7 +11,7 @@ use Rattle.rules.specs.declared.Mode.{Mode}
 use Rattle.modes.specs.declared.session.Session.{Session}
 use Rattle.questions.specs.Questions.{Question, ask, maxUnits, openQuestions, feedQuestions}
 use Rattle.modes.specs.Sessions.{openNumber, feedNumberWithin, feedNumber}
-use Rattle.grammar.proofs.RangeLaws.{and-first, and-second}
+use Rattle.digits.proofs.RangeLaws.{and-first, and-second}
 
 -- Is each number of the list below 100?
 abbrev allPrint : List Question → Bool

@@ -21,7 +21,7 @@ use Rattle.questions.specs.Questions.{Question, ask, maxBits, maxUnits, ivOk, b
 use Rattle.questions.proofs.QuestionLaws.{counters-enough, OpeningTaken, opening-taken}
 use Rattle.modes.specs.Sessions.{openNumber, openedSession, feedNumberWithin, feedNumber}
 use Rattle.modes.proofs.OpeningLaws.{opened-good}
-use Rattle.modes.proofs.WholeBlockLaws.{whole-block}
+use Rattle.rules.proofs.LengthLaws.{whole-block}
 use Rattle.grammar.specs.Grammar.{Request, request}
 use Rattle.grammar.proofs.SizeLaws.{message-size}
 use Rattle.lines.specs.Answer.{lineOf, fedLine, requestLine, answerTo, answerBytes, Printed, accepted, key-refused, iv-refused, n-refused, bits-refused, form-refused, PrintsOneOfSix}

@@ -11,7 +11,7 @@ use Rattle.rules.specs.declared.Direction.{Direction}
 use Rattle.modes.specs.declared.session.Opened.{Opened}
 use Rattle.modes.specs.Sessions.{openNumber, OpenedBy}
 use Rattle.grammar.specs.declared.form.Form.{Form}
-use Rattle.grammar.specs.Texts.{hexBytes}
+use Rattle.digits.specs.Texts.{hexBytes}
 use Rattle.grammar.specs.Grammar.{request}
 use Rattle.grammar.specs.Answers.{Within, FormFits, FormRead, bytesAt}
 use Rattle.lines.specs.Answer.{lineOf, fedLine, requestLine, answerTo, answerBytes}

@@ -7,8 +7,8 @@ use native.Mathlib.Omega.{arith}
 use borrow.Author.Tests.{le-leb, lt-leb, ne-eqb}
 use lib.ListN.{length, take, drop, set, length-append, length-set}
 use lib.Seq.{paste, length-paste, take-paste, drop-paste, take-all, set-split, drop-drop, drop-set-lt}
-use Rattle.grammar.specs.Texts.{digit, decimalText, hexText, encodedInto}
-use Rattle.grammar.proofs.DigitLaws.{length-hexText}
+use Rattle.digits.specs.Texts.{digit, decimalText, hexText, encodedInto}
+use Rattle.digits.proofs.DigitLaws.{length-hexText}
 use Rattle.lines.specs.Answer.{lineOf, Wrote}
 
 -- ---- stores at the front

@@ -8,9 +8,10 @@ use mathlib.Core.Option.{Option, none, some}
 use lib.Dec.{eqb}
 use lib.ListN.{length, take, drop}
 use Rattle.bits.specs.Texts.{pack}
+use Rattle.questions.specs.Questions.{notFormed}
 use Rattle.modes.specs.declared.session.Session.{Session}
 use Rattle.modes.specs.Sessions.{openNumber, openedSession, fedText, sessionText, feedNumber}
-use Rattle.grammar.specs.Texts.{hexText, decimalText}
+use Rattle.digits.specs.Texts.{hexText, decimalText}
 use Rattle.grammar.specs.Grammar.{Request, request}
 use Rattle.grammar.specs.Reading.{readingEnds}
 
@@ -31,7 +32,7 @@ requestLine q =
 
 -- Number 12 is a text that is not of the form.
 unfoldable pub answerTo : Option Request → List ℕ
-answerTo none = lineOf 12 []
+answerTo none = lineOf notFormed []
 answerTo (some q) = requestLine q
 
 unfoldable pub answerBytes : List ℕ → List ℕ
@@ -43,7 +44,7 @@ FrontDecides = (input : List ℕ) → answerBytes (take 8462 input) ≡ answerBy
 
 -- Where reading has ended, the answer is 12 whatever would come behind.
 unfoldable pub EndDecides : Type 0
-EndDecides = (front more : List ℕ) → readingEnds front ≡ true → answerBytes (front ++ more) ≡ lineOf 12 []
+EndDecides = (front more : List ℕ) → readingEnds front ≡ true → answerBytes (front ++ more) ≡ lineOf notFormed []
 
 -- What may be printed: 0 with bytes, or alone the number of question 1, 2, 3, 7 or 12. A session just opened, fed all the data into as
 -- much room, meets no other 'no'.
@@ -53,7 +54,7 @@ pub data Printed : List ℕ → Type 0 where
   iv-refused : Printed (lineOf 2 [])
   n-refused : Printed (lineOf 3 [])
   bits-refused : Printed (lineOf 7 [])
-  form-refused : Printed (lineOf 12 [])
+  form-refused : Printed (lineOf notFormed [])
 
 unfoldable pub PrintsOneOfSix : Type 0
 PrintsOneOfSix = (input : List ℕ) → Printed (answerBytes input)

@@ -9,24 +9,25 @@ use rules::Mode;
 ghost use Prim.Native.Nat.{_≤_};
 ghost use lib.ListN.{length};
 ghost use Rattle.modes.specs.Sessions.{OpenedBy};
-ghost use Rattle.grammar.specs.Texts.{hexBytes};
+ghost use Rattle.digits.specs.Texts.{hexBytes};
+ghost use Rattle.grammar.specs.Grammar.{maxKeyDigits, maxDataDigits};
 ghost use Rattle.lines.specs.Answer.{fedLine, answerBytes, Wrote};
 
-// The longest output: '0', a space, the digits of 4,096 bytes, a line feed.
-pub const MAX_OUTPUT: usize = 8195;
+// The longest output: '0', a space, the digits, a line feed.
+pub const MAX_OUTPUT: usize = 3 + grammar::MAX_DATA_DIGITS;
 
 // The longest input of the form: its first line has 10 bytes, the others have their digits and a line feed.
-pub const MAX_INPUT: usize = 8461;
+pub const MAX_INPUT: usize = 10 + 2 * (grammar::MAX_KEY_DIGITS + 1) + grammar::MAX_DATA_DIGITS + 1;
 
 // Opens under a key and an IV in digits.
 fn open_with(mode: Mode, n: usize, direction: Direction, key: &[u8], iv: &[u8]) -> Opened
-    requires { ⌜ (length (now key) ≤ 128) × (length (now iv) ≤ 128) ⌝ }
+    requires { ⌜ (length (now key) ≤ maxKeyDigits) × (length (now iv) ≤ maxKeyDigits) ⌝ }
     ensures { λ r. ⌜ OpenedBy mode direction n 128 (hexBytes (now (key .entry))) (hexBytes (now (iv .entry))) r ⌝ }
 {
-    let mut key_bytes = [0u8; 64];
-    let mut iv_bytes = [0u8; 64];
-    grammar::decode(key, &mut key_bytes);
-    grammar::decode(iv, &mut iv_bytes);
+    let mut key_bytes = [0u8; grammar::MAX_KEY_DIGITS / 2];
+    let mut iv_bytes = [0u8; grammar::MAX_KEY_DIGITS / 2];
+    digits::decode(key, &mut key_bytes);
+    digits::decode(iv, &mut iv_bytes);
     let key_len = key.len() / 2;
     let iv_len = iv.len() / 2;
     Session::open(
@@ -40,12 +41,12 @@ fn open_with(mode: Mode, n: usize, direction: Direction, key: &[u8], iv: &[u8]) 
 
 // Feeds the bytes of the digits, and writes the line.
 fn feed_all(session: Session, digits: &[u8], out: &mut [u8; MAX_OUTPUT]) -> usize
-    requires { ⌜ length (now digits) ≤ 8192 ⌝ }
+    requires { ⌜ length (now digits) ≤ maxDataDigits ⌝ }
     ensures { λ r. ⌜ Wrote (fedLine session (hexBytes (now (digits .entry)))) (now (out .entry)) r (now (out .exit)) ⌝ }
 {
-    let mut data = [0u8; 4096];
-    let mut text = [0u8; 4096];
-    grammar::decode(digits, &mut data);
+    let mut data = [0u8; grammar::MAX_DATA_DIGITS / 2];
+    let mut text = [0u8; grammar::MAX_DATA_DIGITS / 2];
+    digits::decode(digits, &mut data);
     let len = digits.len() / 2;
     let fed = session.feed(&data[..len], len * 8, &mut text[..len], 0);
     let number = fed.number;

@@ -1,5 +1,5 @@
 -- What open and feed give, from the answers to their questions. Assumes nothing.
-use Prim.Native.Nat.{ℕ, suc, _+_, _-_, _%_, _≤_}
+use Prim.Native.Nat.{ℕ, _+_, _-_, _%_, _≤_}
 use mathlib.Core.Path.{_≡_, refl, sym, ap, _∙_}
 use mathlib.Core.Bool.{Bool, true, false, cond, not}
 use mathlib.Core.List.{List, _++_, append-assoc, append-nil}
@@ -13,11 +13,9 @@ use Rattle.bits.specs.Texts.{pack}
 use Rattle.aes.specs.Calls.{keyOk, keyNumber}
 use Rattle.rules.specs.declared.Mode.{Mode}
 use Rattle.rules.specs.declared.Direction.{Direction}
-use Rattle.rules.specs.Lengths.{unitLengthOk, counterLengthOk}
 use Rattle.rules.specs.Rules.{unitsIn}
 use Rattle.modes.specs.declared.session.Session.{Session}
-use Rattle.questions.specs.Questions.{ask, ivOk, openQuestions}
-use Rattle.modes.specs.Sessions.{openNumber, openedSession, refusedSession, OpenedBy, fedText, sessionText, sessionRegister, feedNumber, fedSession, sessionRuns, written, FedBy}
+use Rattle.modes.specs.Sessions.{openNumber, openedSession, refusedSession, OpenedBy, fedText, sessionText, sessionRegister, feedNumber, movedSession, fedSession, sessionRuns, written, FedBy}
 
 -- ---- open
 
@@ -38,31 +36,14 @@ key-yes key e = go (keyOk key) e
     go false e = absurd (suc-ne-zero 0 e)
 
 module _ (mode : Mode) (dir : Direction) (n m : ℕ) (key iv : List ℕ) where
-  opening-refused : (k : ℕ) {s : Session} → openNumber mode n m key iv ≡ suc k → s ≡ refusedSession → OpenedBy mode dir n m key iv (record { number = suc k; session = s })
-  opening-refused k e f = record { answer = sym e; opened = f ∙ rw (e, ne-eqb (suc k) 0 (suc-ne-zero k)) }
+  pub opening-refused : {number : ℕ} {s : Session} → number ≡ openNumber mode n m key iv → (number ≡ 0 → ⊥) → s ≡ refusedSession
+      → OpenedBy mode dir n m key iv (record { number = number; session = s })
+  opening-refused e no-zero f =
+      record { answer = e; opened = f ∙ rw (ne-eqb (openNumber mode n m key iv) 0 (λ z. no-zero (e ∙ z))) }
 
-  pub refused-1 : {s : Session} → keyOk key ≡ false → s ≡ refusedSession → OpenedBy mode dir n m key iv (record { number = 1; session = s })
-  unfolding openNumber ask openQuestions
-  refused-1 a f = opening-refused 0 (rw a) f
-
-  pub refused-2 : {s : Session} → keyOk key ≡ true → ivOk mode iv ≡ false → s ≡ refusedSession → OpenedBy mode dir n m key iv (record { number = 2; session = s })
-  unfolding openNumber ask openQuestions
-  refused-2 a b f = opening-refused 1 (rw (a, b)) f
-
-  pub refused-3 : {s : Session} → keyOk key ≡ true → ivOk mode iv ≡ true → unitLengthOk mode n ≡ false → s ≡ refusedSession → OpenedBy mode dir n m key iv (record { number = 3; session = s })
-  unfolding openNumber ask openQuestions
-  refused-3 a b c f = opening-refused 2 (rw (a, b, c)) f
-
-  pub refused-14 : {s : Session} → keyOk key ≡ true → ivOk mode iv ≡ true → unitLengthOk mode n ≡ true → counterLengthOk mode m ≡ false → s ≡ refusedSession → OpenedBy mode dir n m key iv (record { number = 14; session = s })
-  unfolding openNumber ask openQuestions
-  refused-14 a b c d f = opening-refused 13 (rw (a, b, c, d)) f
-
-  no-no : keyOk key ≡ true → ivOk mode iv ≡ true → unitLengthOk mode n ≡ true → counterLengthOk mode m ≡ true → openNumber mode n m key iv ≡ 0
-  unfolding openNumber ask openQuestions
-  no-no a b c d = rw (a, b, c, d)
-
-  pub accepted-opening : {s : Session} → keyOk key ≡ true → ivOk mode iv ≡ true → unitLengthOk mode n ≡ true → counterLengthOk mode m ≡ true → s ≡ openedSession mode dir n m key iv → OpenedBy mode dir n m key iv (record { number = 0; session = s })
-  accepted-opening a b c d f = let z = no-no a b c d in record { answer = sym z; opened = f ∙ rw z }
+  pub opening-accepted : {s : Session} → openNumber mode n m key iv ≡ 0 → s ≡ openedSession mode dir n m key iv
+      → OpenedBy mode dir n m key iv (record { number = 0; session = s })
+  opening-accepted z f = record { answer = sym z; opened = f ∙ rw z }
 
 -- ---- feed
 
@@ -88,8 +69,12 @@ part-written out place count x part h l r e =
     ∙ ap (λ p. take place out ++ p) (append-nil part ∙ e ∙ ap (λ p. pack x ++ p) (drop-drop count place out ∙ ap (λ k. drop (place + k) out) (sym l)))
     ∙ sym (append-assoc (take place out) (pack x) (drop (place + length (pack x)) out))
 
--- The session that comes back.
-pub moved : (s : Session) (x : List Bool) (count : ℕ) {r : List ℕ} {new : ℕ} → length x ≡ count → r ≡ sessionRegister s x (unitsIn (s .n) count) → new ≡ unitsIn (s .n) count
-    → _≡_ {A = Session} (record { mode = s .mode; direction = s .direction; n = s .n; m = s .m; rounds = s .rounds; keys = s .keys; register = r; units = s .units + new; closed = not (eqb (count % s .n) 0) }) (fedSession s x)
+-- The session that comes back: by the units counted, and by the text.
+pub moved-on : (s : Session) (r : List ℕ) (count : ℕ) {new : ℕ} → new ≡ unitsIn (s .n) count
+    → _≡_ {A = Session} (record { mode = s .mode; direction = s .direction; n = s .n; m = s .m; rounds = s .rounds; keys = s .keys; register = r; units = s .units + new; closed = not (eqb (count % s .n) 0) }) (movedSession s r count)
+moved-on s r count e = rw e
+
+pub moved-by : (s : Session) (x : List Bool) {count : ℕ} {r : List ℕ} {t : Session} → length x ≡ count → r ≡ sessionRegister s x (unitsIn (s .n) count)
+    → t ≡ movedSession s r count → t ≡ fedSession s x
 unfolding fedSession
-moved s x count l p q = rw (l, p, q)
+moved-by s x l p e = e ∙ rw (l, p)

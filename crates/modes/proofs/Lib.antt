@@ -4,16 +4,4 @@ pub mod AnswerLaws
 pub mod WrittenLaws
 pub mod SessionLaws
 pub mod FeedLaws
-pub mod RunLaws
 pub mod OpeningLaws
-pub mod OpenedRuns
-pub mod DemandTwo
-pub mod MachineLaws
-pub mod AgreementLaws
-pub mod RegisterLaws
-pub mod UsedLaws
-pub mod DemandThree
-pub mod CounterLaws
-pub mod WholeBlockLaws
-pub mod SentenceLaws
-pub mod AcceptLaws

@@ -16,7 +16,7 @@ use Rattle.rules.specs.Rules.{start}
 use Rattle.modes.specs.declared.session.Opened.{Opened}
 use Rattle.questions.specs.Questions.{ivOk, sessionOk}
 use Rattle.modes.specs.Sessions.{OpenedBy, openNumber, openedSession}
-use Rattle.modes.specs.Promises.{RefusedOpening}
+use Rattle.modes.specs.Promises.{RefusedOpening, OpenedFresh}
 use Rattle.questions.proofs.QuestionLaws.{OpeningTaken, opening-taken}
 use Rattle.modes.proofs.SessionLaws.{Ready}
 
@@ -64,3 +64,7 @@ module _ {mode : Mode} {dir : Direction} {n m : ℕ} {key iv : List ℕ} {r : Op
         rounds-good = expands .rounds;
         unit = asked .unit;
       }
+
+pub opened-fresh : OpenedFresh
+unfolding OpenedFresh openedSession
+opened-fresh mode dir n m key iv r opening accepted = let same = opened-session opening accepted in (rw same, rw same)

@@ -28,9 +28,9 @@ use Rattle.cipher.specs.Promises.{UndoEachOther}
 use Rattle.cipher.proofs.CipherLaws.{undo-each-other}
 use Rattle.questions.specs.Questions.{ivOk}
 use Rattle.units.specs.declared.unit.Step.{Step}
-use Rattle.units.specs.Turns.{Turned, unitSizeOk}
+use Rattle.units.specs.inner.Turns.{Turned, unitSizeOk}
 use Rattle.modes.specs.declared.work.Progress.{Progress}
-use Rattle.modes.specs.Works.{Workable, RunsUnder, UnitWorked, Worked}
+use Rattle.modes.specs.inner.Works.{Workable, RunsUnder, UnitWorked, Worked}
 use Rattle.units.proofs.TurnLaws.{out-same, next-same}
 
 pub drop-take : {A : Type 0} (a c : ℕ) (z : List A) → drop a (take c z) ≡ take (c - a) (drop a z)
@@ -209,15 +209,15 @@ module _ {mode : Mode} {dir : Direction} {n rounds : ℕ} {keys input : List ℕ
   still-workable e =
       record { unit-length = w .unit-length; whole = w .whole; within = w .within; small = w .small; room = rw e (w .room) }
 
-  pub one-through : (t : ℕ) → t < unitsIn n count → {r unit : Progress} {out after : List ℕ} → Through mode dir n m rounds keys register input count old t r out
-      → UnitWorked f mode dir n m (r .register) input count out t unit after
+  pub one-through : (t : ℕ) → t < unitsIn n count → {r unit : Progress} {before out after : List ℕ} → Through mode dir n m rounds keys register input count old t r out
+      → UnitWorked f mode dir n m before input count out t unit after → before ≡ r .register
       → Through mode dir n m rounds keys register input count old (suc t) (record { register = unit .register; runs = r .runs + unit .runs }) after
   unfolding registerAt joined outAt
-  one-through t h {out = out} s u =
+  one-through t h {out = out} s u e =
       let at : length (joined t become) ≡ t * n = become-length t (omega arith) ∙ min-eq-left (omega (arith, unit-there count t (unit-bounds mode n (w .unit-length) .0) .0 h)) in
       let block = registers-block ciphers m dir hr text-taken t (rw count-bits (omega arith)) in
       let size = unit-taken w h in
-      let now = s .register-now in
+      let now = e ∙ s .register-now in
       record {
         runs-now = omega (arith, s .runs-now, u .one-run);
         register-now = u .register-after ∙ ap (λ r. nextOf f f mode dir m r (unitAt n text t)) now ∙ next-same block (unitAt n text t) mode dir m (under .runs) size;

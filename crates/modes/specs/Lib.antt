@@ -1,8 +1,4 @@
--- Sessions, what each call answers, the plain machine, lists of calls, and what is promised of them.
+-- Sessions: what an opening and a feed give, and what is promised of one call.
 pub mod Sessions
-pub mod Works
-pub mod Machine
-pub mod Lists
+pub mod inner
 pub mod Promises
-pub mod Accepts
-pub mod Counters

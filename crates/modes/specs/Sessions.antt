@@ -61,9 +61,9 @@ unfoldable pub feedNumberWithin : ℕ → Session → ℕ → ℕ → ℕ → �
 feedNumberWithin limit s bytes count size place =
     ask (feedQuestions limit (s .mode) (s .rounds) (s .n) (s .m) (s .closed) (s .units) bytes count size place)
 
--- The session after an accepted feed of x: the register moved by its units, the units counted, closed by a short one.
-unfoldable pub fedSession : Session → List Bool → Session
-fedSession s x =
+-- A session whose register was moved by so many bits: their units are counted, and a short one closes it.
+abbrev pub movedSession : Session → List ℕ → ℕ → Session
+movedSession s register count =
     record {
       mode = s .mode;
       direction = s .direction;
@@ -71,10 +71,14 @@ fedSession s x =
       m = s .m;
       rounds = s .rounds;
       keys = s .keys;
-      register = sessionRegister s x (unitsIn (s .n) (length x));
-      units = s .units + unitsIn (s .n) (length x);
-      closed = not (eqb (length x % s .n) 0);
+      register = register;
+      units = s .units + unitsIn (s .n) count;
+      closed = not (eqb (count % s .n) 0);
     }
+
+-- The session after an accepted feed of x.
+unfoldable pub fedSession : Session → List Bool → Session
+fedSession s x = movedSession s (sessionRegister s x (unitsIn (s .n) (length x))) (length x)
 
 -- The runs of the block cipher that a text takes: one for each of its units, a short one included.
 unfoldable pub sessionRuns : Session → List Bool → ℕ

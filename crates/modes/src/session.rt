@@ -2,8 +2,11 @@
 use crate::work;
 use rules::Direction;
 use rules::Mode;
+ghost use Prim.Native.Nat.{_+_, _≤_, _<_};
 ghost use mathlib.Core.Path.{_≡_};
-ghost use Rattle.modes.specs.Sessions.{OpenedBy, FedBy, refusedSession};
+ghost use Rattle.rules.specs.Rules.{unitsIn};
+ghost use Rattle.questions.specs.Questions.{maxUnits};
+ghost use Rattle.modes.specs.Sessions.{OpenedBy, FedBy, refusedSession, movedSession};
 
 // A session, as document 01 lists it, and m. `n` is the unit's bits, `m` those of the counter, `register` is R.
 pub struct Session {
@@ -76,31 +79,14 @@ impl Session {
     ) -> Opened
         ensures { λ r. ⌜ OpenedBy mode direction n m (now (key .entry)) (now (iv .entry)) r ⌝ }
     {
+        let answer = questions::open_number(mode, n, m, key, iv);
+        if answer != 0 {
+            return Opened {
+                number: answer,
+                session: Session::refused(),
+            };
+        }
         let schedule = aes::expand(key);
-        if schedule.number != 0 {
-            return Opened {
-                number: 1,
-                session: Session::refused(),
-            };
-        }
-        if !questions::iv_ok(mode, iv) {
-            return Opened {
-                number: 2,
-                session: Session::refused(),
-            };
-        }
-        if !rules::unit_length_ok(mode, n) {
-            return Opened {
-                number: 3,
-                session: Session::refused(),
-            };
-        }
-        if !rules::counter_length_ok(mode, m) {
-            return Opened {
-                number: 14,
-                session: Session::refused(),
-            };
-        }
         // The IV, and zero bytes where there is none.
         let register = bits::window(iv, 0, questions::BLOCK_BITS);
         let keys = schedule.keys;
@@ -119,12 +105,34 @@ impl Session {
         Opened { number: 0, session }
     }
 
+    // The session after an accepted feed of so many bits, which left R as `register`.
+    fn moved(self, register: [u8; 16], bits: usize) -> Session
+        requires { ⌜ (0 < self .n) × (self .units + unitsIn (self .n) bits ≤ maxUnits) ⌝ }
+        ensures { λ r. ⌜ r ≡ movedSession self register bits ⌝ }
+    {
+        let mode = self.mode;
+        let direction = self.direction;
+        let keys = self.keys;
+        let done = self.units + questions::units_in(self.n, bits) as u64;
+        let rest = bits % self.n;
+        Session {
+            mode,
+            direction,
+            n: self.n,
+            m: self.m,
+            rounds: self.rounds,
+            keys,
+            register,
+            units: done,
+            closed: rest != 0,
+        }
+    }
+
     // Feeds the first `bits` bits of `input`, and writes what they become from out[place] on.
     pub fn feed(self, input: &[u8], bits: usize, out: &mut [u8], place: usize) -> Fed
         ensures { λ r. ⌜ FedBy self (now (input .entry)) bits (now (out .entry)) place r (now (out .exit)) ⌝ }
     {
         let mode = self.mode;
-        let direction = self.direction;
         let number = questions::feed_number(
             mode,
             self.rounds,
@@ -144,27 +152,11 @@ impl Session {
                 runs: 0,
             };
         }
-        let keys = self.keys;
-        let n = self.n;
-        let m = self.m;
         let worked = work::work(self, input, bits, &mut out[place..]);
         let next = worked.register;
-        let done = self.units + questions::units_in(n, bits) as u64;
-        let rest = bits % n;
-        let session = Session {
-            mode,
-            direction,
-            n,
-            m,
-            rounds: self.rounds,
-            keys,
-            register: next,
-            units: done,
-            closed: rest != 0,
-        };
         Fed {
             number: 0,
-            session,
+            session: self.moved(next, bits),
             runs: worked.runs,
         }
     }

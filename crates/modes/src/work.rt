@@ -1,14 +1,13 @@
 // The loop over a feed's units.
 use crate::session::Session;
-use rules::Direction;
-use rules::Mode;
+use prepared::Prepared;
 ghost use mathlib.Core.Path.{_≡_};
 ghost use mathlib.Core.Bool.{true};
 ghost use Prim.Native.Nat.{_<_, min};
 ghost use Rattle.cipher.specs.Cipher.{roundsOk};
 ghost use Rattle.rules.specs.Rules.{unitsIn};
-ghost use Rattle.prepared.specs.Rounds.{blockBy};
-ghost use Rattle.modes.specs.Works.{Workable, RunsUnder, UnitWorked, Worked};
+ghost use Rattle.prepared.specs.Prepared.{preparedBlock};
+ghost use Rattle.modes.specs.inner.Works.{Workable, RunsUnder, UnitWorked, Worked};
 
 // What units leave: R after them, and the runs of the block function that they took.
 pub struct Progress {
@@ -22,43 +21,28 @@ fn smaller(a: usize, b: usize) -> usize
     if a < b { a } else { b }
 }
 
-// Works unit t, on the part of the input that begins at the byte holding its first bit.
+// Works unit t of the session from R before it, on the part of the input that begins at the byte holding the unit's first bit.
 fn work_unit(
-    mode: Mode,
-    direction: Direction,
-    n: usize,
-    m: usize,
-    dec: bool,
-    rounds: usize,
-    table: &[u32; 1024],
-    last: &[u8; 256],
-    words: &[u32; 60],
+    session: Session,
+    prepared: &Prepared,
     register: [u8; 16],
     input: &[u8],
     bits: usize,
     out: &mut [u8],
     t: usize,
 ) -> Progress
-    requires { ⌜ Workable mode n (now input) bits (now out) × (t < unitsIn n bits) ⌝ }
-    ensures { λ r. ⌜ UnitWorked (blockBy dec rounds (now (table .entry)) (now (last .entry)) (now (words .entry))) mode direction n m register (now (input .entry)) bits (now (out .entry)) t r (now (out .exit)) ⌝ }
+    requires { ⌜ Workable (session .mode) (session .n) (now input) bits (now out) × (t < unitsIn (session .n) bits) ⌝ }
+    ensures { λ r. ⌜ UnitWorked (preparedBlock (now (prepared .entry))) (session .mode) (session .direction) (session .n) (session .m) register (now (input .entry)) bits (now (out .entry)) t r (now (out .exit)) ⌝ }
 {
+    let mode = session.mode;
+    let direction = session.direction;
+    let n = session.n;
+    let m = session.m;
     let at = t * n;
     let size = smaller(n, bits - at);
     let a = at / 8;
-    let step = units::turn(
-        mode,
-        direction,
-        dec,
-        rounds,
-        table,
-        last,
-        words,
-        register,
-        &input[a..],
-        at % 8,
-        size,
-        m,
-    );
+    let part = &input[a..];
+    let step = units::turn(mode, direction, prepared, register, part, at % 8, size, m);
     let text = step.out;
     bits::put_bits(out, at, text, size);
     let next = step.register;
@@ -69,21 +53,16 @@ fn work_unit(
 }
 
 // Works all units, one after the other, by what was prepared, and adds up their runs.
-fn work_units<'a>(
+fn work_units(
     session: Session,
-    dec: bool,
-    table: &'a [u32; 1024],
-    last: &'a [u8; 256],
-    words: &'a [u32; 60],
+    prepared: &Prepared,
     input: &[u8],
     bits: usize,
     out: &mut [u8],
 ) -> Progress
-    requires { ⌜ Workable (session .mode) (session .n) (now input) bits (now out) × RunsUnder (session .rounds) (session .keys) (session .mode) (session .direction) (blockBy dec (session .rounds) (now table) (now last) (now words)) ⌝ }
+    requires { ⌜ Workable (session .mode) (session .n) (now input) bits (now out) × RunsUnder (session .rounds) (session .keys) (session .mode) (session .direction) (preparedBlock (now prepared)) ⌝ }
     ensures { λ r. ⌜ Worked (session .mode) (session .direction) (session .n) (session .m) (session .rounds) (session .keys) (session .register) (now (input .entry)) bits (now (out .entry)) r (now (out .exit)) ⌝ }
 {
-    let mode = session.mode;
-    let direction = session.direction;
     let units = questions::units_in(session.n, bits);
     let first = session.register;
     let mut done = Progress {
@@ -93,22 +72,7 @@ fn work_units<'a>(
     let mut t: usize = 0;
     while t < units {
         let before = done.register;
-        let unit = work_unit(
-            mode,
-            direction,
-            session.n,
-            session.m,
-            dec,
-            session.rounds,
-            table,
-            last,
-            words,
-            before,
-            input,
-            bits,
-            out,
-            t,
-        );
+        let unit = work_unit(session, prepared, before, input, bits, out, t);
         let next = unit.register;
         let runs = done.runs + unit.runs;
         done = Progress {
@@ -130,15 +94,7 @@ pub fn work(session: Session, input: &[u8], bits: usize, out: &mut [u8]) -> Prog
     let direction = session.direction;
     let keys = session.keys;
     let dec = units::runs_dec(mode, direction);
-    let made = prepared::prepare(dec, session.rounds, &keys);
-    work_units(
-        session,
-        dec,
-        &made.table,
-        &made.last,
-        &made.words,
-        input,
-        bits,
-        out,
-    )
+    let mut words = [0; prepared::WORDS];
+    prepared::prepare(dec, session.rounds, &keys, &mut words);
+    work_units(session, &words, input, bits, out)
 }

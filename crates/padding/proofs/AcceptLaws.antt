@@ -10,7 +10,7 @@ use Rattle.bits.specs.Texts.{bytesFor}
 use Rattle.questions.specs.Questions.{maxBits}
 use Rattle.questions.specs.Promises.{AcceptedExactly}
 use Rattle.questions.proofs.QuestionLaws.{accepted-exactly}
-use Rattle.modes.proofs.SentenceLaws.{bits-exactly, room-exactly}
+use Rattle.questions.proofs.SentenceLaws.{bits-exactly, room-exactly}
 use Rattle.padding.specs.Padding.{paddedLength, maxPadBits, padQuestions, padNumber, wholeBlocks, unpadQuestions, unpadNumber}
 use Rattle.padding.specs.Promises.{PadAccepts, UnpadAccepts}
 

@@ -1,16 +1,17 @@
 -- What pad and unpad answer: where the number is 0 and where it is not. Assumes nothing.
 use Prim.Native.Nat.{ℕ, _-_, _*_, _%_, _≤_, _<_}
 use mathlib.Core.Path.{_≡_, sym, _∙_}
-use mathlib.Core.Bool.{true, false, and-eq-true-iff}
+use mathlib.Core.Bool.{true, false}
 use mathlib.Core.List.{List}
 use native.Mathlib.Omega.{arith}
-use borrow.Author.Tests.{leb-true, eq-eqb, ne-eqb}
-use lib.Dec.{eqb, leb}
+use borrow.Author.Tests.{eq-eqb, ne-eqb}
+use lib.Dec.{eqb}
 use lib.ListN.{length}
 use Rattle.bits.specs.Texts.{bits, bytesFor}
-use Rattle.questions.specs.Questions.{ask, bitsOk, roomOk, maxBits}
+use Rattle.questions.specs.Questions.{ask, maxBits}
+use Rattle.questions.specs.Promises.{AcceptedExactly}
 use Rattle.modes.specs.Sessions.{fedText, written}
-use Rattle.questions.proofs.QuestionLaws.{first-yes, bits-small, bits-there}
+use Rattle.questions.proofs.QuestionLaws.{accepted-exactly, bits-small, bits-there, room-inside, room-there}
 use Rattle.padding.specs.Padding.{padded, paddedLength, maxPadBits, padQuestions, padNumber, PaddedBy, unpaddedLength, unpadQuestions, unpadNumber, UnpaddedBy}
 use Rattle.padding.proofs.NumberLaws.{taken, whole-blocks, blocks-there}
 use Rattle.padding.proofs.PadLaws.{length-padded, length-fed}
@@ -25,16 +26,10 @@ pub record PadTaken (bytes count size place : ℕ) : Type 0 where
   pub room : bytesFor (paddedLength count) ≤ size - place
 
 pub pad-taken : (bytes count size place : ℕ) → padNumber bytes count size place ≡ 0 → PadTaken bytes count size place
-unfolding padNumber padQuestions bitsOk roomOk
-pad-taken bytes count size place e6 =
-    let (q6, e8) = first-yes _ _ (omega arith) e6 in
-    let (q8, e0) = first-yes _ _ (omega arith) e8 in
-    record {
-      there = bits-there _ _ _ q6;
-      limit = bits-small _ _ _ q6;
-      inside = leb-true _ _ (and-eq-true-iff (leb place size) (leb (bytesFor (paddedLength count)) (size - place)) .0 q8 .0);
-      room = leb-true _ _ (and-eq-true-iff (leb place size) (leb (bytesFor (paddedLength count)) (size - place)) .0 q8 .1);
-    }
+unfolding padNumber padQuestions AcceptedExactly
+pad-taken bytes count size place e =
+    let (q6, (q8, end)) = accepted-exactly (padQuestions bytes count size place) (omega arith) .0 e in
+    record { there = bits-there _ _ _ q6; limit = bits-small _ _ _ q6; inside = room-inside _ _ _ q8; room = room-there _ _ _ q8 }
 
 module _ (input : List ℕ) (count : ℕ) (out : List ℕ) (place : ℕ) {number : ℕ} (asked : number ≡ padNumber (length input) count (length out) place) where
   pub pad-refused : (number ≡ 0 → ⊥) → PaddedBy input count out place (record { number = number; bits = 0 }) out
@@ -63,10 +58,9 @@ pub record UnpadTaken (bytes count : ℕ) : Type 0 where
   pub some : 128 ≤ count
 
 pub unpad-taken : (bytes count : ℕ) → unpadNumber bytes count ≡ 0 → UnpadTaken bytes count
-unfolding unpadNumber unpadQuestions
-unpad-taken bytes count e6 =
-    let (q6, e7) = first-yes _ _ (omega arith) e6 in
-    let (q7, e0) = first-yes _ _ (omega arith) e7 in
+unfolding unpadNumber unpadQuestions AcceptedExactly
+unpad-taken bytes count e =
+    let (q6, (q7, end)) = accepted-exactly (unpadQuestions bytes count) (omega arith) .0 e in
     record { there = bits-there _ _ _ q6; limit = bits-small _ _ _ q6; some = blocks-there count q7 }
 
 pub unpad-takes : (bytes count : ℕ) → 0 < count → count % 128 ≡ 0 → count ≤ 8 * bytes → count ≤ maxBits → unpadNumber bytes count ≡ 0

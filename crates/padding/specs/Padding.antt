@@ -7,7 +7,7 @@ use mathlib.Core.List.{List, [], _∷_, _++_}
 use lib.Dec.{eqb, leb}
 use lib.ListN.{length, getD, drop, replicate}
 use Rattle.bits.specs.Texts.{bytesFor}
-use Rattle.questions.specs.Questions.{Question, ask, bitsOk, roomOk, maxBits}
+use Rattle.questions.specs.Questions.{Question, ask, maxBits, bitsThere, room}
 use Rattle.modes.specs.Sessions.{fedText, written}
 use Rattle.padding.specs.declared.append.Padded.{Padded}
 use Rattle.padding.specs.declared.strip.Unpadded.{Unpadded}
@@ -30,7 +30,7 @@ maxPadBits = maxBits - 1
 
 unfoldable pub padQuestions : ℕ → ℕ → ℕ → ℕ → List Question
 padQuestions bytes count size place =
-    record { yes = bitsOk maxPadBits bytes count; number = 6 } ∷ record { yes = roomOk size place (bytesFor (paddedLength count)); number = 8 } ∷ []
+    bitsThere maxPadBits bytes count ∷ room size place (bytesFor (paddedLength count)) ∷ []
 
 unfoldable pub padNumber : ℕ → ℕ → ℕ → ℕ → ℕ
 padNumber bytes count size place = ask (padQuestions bytes count size place)
@@ -61,9 +61,12 @@ unpaddedLength x = (length x - 128) + pred (upToLastOne (lastBlock x) 128)
 unfoldable pub wholeBlocks : ℕ → Bool
 wholeBlocks count = leb 1 count && eqb (count % 128) 0
 
+abbrev pub blocksWhole : ℕ → Question
+blocksWhole count = record { yes = wholeBlocks count; number = 7 }
+
 -- Number 10 was a third question's, whether the text holds a 1 bit. It stays reserved, and no call asks it.
 unfoldable pub unpadQuestions : ℕ → ℕ → List Question
-unpadQuestions bytes count = record { yes = bitsOk maxBits bytes count; number = 6 } ∷ record { yes = wholeBlocks count; number = 7 } ∷ []
+unpadQuestions bytes count = bitsThere maxBits bytes count ∷ blocksWhole count ∷ []
 
 unfoldable pub unpadNumber : ℕ → ℕ → ℕ
 unpadNumber bytes count = ask (unpadQuestions bytes count)

@@ -13,7 +13,7 @@ use Rattle.bits.specs.Counter.{number, numberBytes}
 use Rattle.bits.proofs.Counter.{number-bytes}
 use Rattle.bits.proofs.Texts.{bytes-nil, cons-bytes}
 use Rattle.places.specs.declared.Digit.{Digit}
-use Rattle.places.specs.Places.{Minus, incrementsBetween}
+use Rattle.places.specs.Answers.{Minus, incrementsBetween}
 use Rattle.places.proofs.ByteLaws.{counting, pow-256, first-among, from-byte, byte-bytes, behind, nothing-left}
 
 -- ---- one byte
@@ -107,9 +107,9 @@ pub turn : {m : ℕ} {iv block : List ℕ} {w : ℕ} {d : Digit} (i : ℕ) (out 
     → Subtracted m (drop (suc i) iv) (drop (suc i) block) (drop (suc i) out) w
     → Minus (getD block i 0) (getD iv i 0) w (2 ^ min 8 (m - 8 * (15 - i))) d
     → Subtracted m (drop i iv) (drop i block) (drop i (set out i (d .value))) (d .borrow)
-turn {iv = iv} {block = block} {d = d} i out place hiv hblock long q minus =
-    rw (from-byte hiv place, from-byte hblock place, front out i (d .value) (omega arith))
-    (one-more q (byte-bytes hiv place) (byte-bytes hblock place) (rw (behind hiv place) minus))
+turn {iv = iv} {block = block} {d = d} i out inside hiv hblock long q minus =
+    rw (from-byte hiv inside, from-byte hblock inside, front out i (d .value) (omega arith))
+    (one-more q (byte-bytes hiv inside) (byte-bytes hblock inside) (rw (behind hiv inside) minus))
 
 by-borrow : (w z x y p : ℕ) → w ≤ 1 → z < p → x < p → z + x ≡ y + w * p → (y + (p - x)) % p ≡ z
 by-borrow zero z x y p bit below small e =

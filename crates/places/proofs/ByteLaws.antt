@@ -82,7 +82,7 @@ module _ (m : ℕ) {b : ℕ} {bs : List ℕ} (h : Bytes (b ∷ bs)) where
 
 -- ---- of a block, from byte i on
 
-module _ {b : List ℕ} (h : Block b) {i : ℕ} (place : i < 16) where
+module _ {b : List ℕ} (h : Block b) {i : ℕ} (inside : i < 16) where
   pub from-byte : drop i b ≡ getD b i 0 ∷ drop (suc i) b
   from-byte = drop-cons b i 0 (omega (arith, h .size))
 

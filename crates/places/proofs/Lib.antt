@@ -3,5 +3,5 @@ pub mod ByteLaws
 pub mod BorrowLaws
 pub mod UpperLaws
 pub mod AnswerLaws
-pub mod PlaceLaws
+pub mod ToldLaws
 pub mod SessionLaws

@@ -12,7 +12,7 @@ use Rattle.bits.specs.Blocks.{Bytes, Block}
 use Rattle.bits.specs.Counter.{number}
 use Rattle.bits.proofs.Counter.{digits-inj}
 use Rattle.bits.proofs.Texts.{tail-bytes}
-use Rattle.places.specs.Places.{upperSame}
+use Rattle.places.specs.Answers.{upperSame}
 use Rattle.places.proofs.ByteLaws.{counting, number-bound, first-above, from-byte, byte-bytes, behind, nothing-left}
 
 above-bound : (m : ℕ) (bs : List ℕ) → Bytes bs → number bs / 2 ^ m < 2 ^ (8 * length bs - m)
@@ -47,26 +47,26 @@ all-same {m} {iv} {block} hiv hblock q =
     eq-eqb (number iv / 2 ^ m) (number block / 2 ^ m)
     (q .wanted (rw (nothing-left hiv, nothing-left hblock)))
 
-module _ {m : ℕ} {iv block : List ℕ} (i : ℕ) (place : i < 16) (hiv : Block iv) (hblock : Block block) (q : LeftTo m iv block i) where
+module _ {m : ℕ} {iv block : List ℕ} (i : ℕ) (inside : i < 16) (hiv : Block iv) (hblock : Block block) (q : LeftTo m iv block i) where
   abbrev here : ℕ
   here = 2 ^ min 8 (m - 8 * (15 - i))
 
   long : length (drop (suc i) block) ≡ length (drop (suc i) iv)
-  long = behind hblock place ∙ sym (behind hiv place)
+  long = behind hblock inside ∙ sym (behind hiv inside)
 
   -- the two bytes, and what follows them
   decided : number (drop i iv) / 2 ^ m ≡ number (drop i block) / 2 ^ m
       → (getD iv i 0 / here ≡ getD block i 0 / here) × (number (drop (suc i) iv) / 2 ^ m ≡ number (drop (suc i) block) / 2 ^ m)
   decided same =
-      rw (behind hiv place) at (parts m (byte-bytes hiv place) (byte-bytes hblock place) long (rw (from-byte hiv place, from-byte hblock place) at same))
+      rw (behind hiv inside) at (parts m (byte-bytes hiv inside) (byte-bytes hblock inside) long (rw (from-byte hiv inside, from-byte hblock inside) at same))
 
   pub next : getD iv i 0 / here ≡ getD block i 0 / here → LeftTo m iv block (suc i)
   next same =
       record {
         wanted = λ rest.
             q .wanted
-            (rw (from-byte hiv place, from-byte hblock place)
-            (joined m (byte-bytes hiv place) (byte-bytes hblock place) long (rw (behind hiv place) same) rest));
+            (rw (from-byte hiv inside, from-byte hblock inside)
+            (joined m (byte-bytes hiv inside) (byte-bytes hblock inside) long (rw (behind hiv inside) same) rest));
         given = λ all. decided (q .given all) .1;
       }
 

@@ -1,3 +1,3 @@
--- From a counter block back to its place: what the call answers, and what is promised of it.
-pub mod Places
+-- From a counter block back to its number in the message: what the call answers, and what is promised of it.
+pub mod Answers
 pub mod Promises

@@ -1,9 +1,9 @@
-// From a counter block back to its place in the message: how many increments of the IV, in its lowest m bits, give the block.
+// From a counter block back to its number in the message: how many increments of the IV, in its lowest m bits, give the block.
 use rules::Mode;
 ghost use mathlib.Core.Path.{_≡_};
 ghost use Prim.Native.Nat.{_-_, _*_, _^_, _≤_, _<_, min};
 ghost use Rattle.bits.specs.Counter.{numberBytes};
-ghost use Rattle.places.specs.Places.{upperSame, placeNumber, incrementsBetween, Minus, PlaceBy};
+ghost use Rattle.places.specs.Answers.{upperSame, ofBlockNumber, incrementsBetween, Minus, ToldBy};
 
 // The number, 0 or that of the first question answered 'no', and how many increments there are: a number of 16 bytes, highest
 // first, and 0 where it is refused.
@@ -45,7 +45,7 @@ fn upper_same(iv: [u8; 16], block: [u8; 16], m: usize) -> bool
 
 // Questions 14 and 16 in order.
 fn number(iv: [u8; 16], block: [u8; 16], m: usize) -> u8
-    ensures { λ r. ⌜ r ≡ placeNumber iv block m ⌝ }
+    ensures { λ r. ⌜ r ≡ ofBlockNumber iv block m ⌝ }
 {
     if !rules::counter_length_ok(Mode::Ctr, m) {
         return 14;
@@ -95,7 +95,7 @@ fn difference(iv: [u8; 16], block: [u8; 16], m: usize) -> [u8; 16]
 }
 
 pub fn of_block(iv: [u8; 16], block: [u8; 16], m: usize) -> Place
-    ensures { λ r. ⌜ PlaceBy iv block m r ⌝ }
+    ensures { λ r. ⌜ ToldBy iv block m r ⌝ }
 {
     let answer = number(iv, block, m);
     if answer != 0 {

@@ -11,19 +11,19 @@ use Rattle.bits.specs.Xor.{xor}
 use Rattle.bits.specs.Blocks.{Block}
 use Rattle.bits.proofs.Xor as Xor
 use Rattle.field.specs.Field.{product}
-use Rattle.field.specs.Boxes.{Tabulates}
 use Rattle.field.specs.Rows.{four, wordAt}
 use Rattle.field.proofs.FieldLaws.{product-xor}
-use Rattle.cipher.specs.State.{at, state, fromBlock, toBlock}
-use Rattle.cipher.specs.Steps.{bytewise, invSubBytes, shiftRows, invShiftRows, circulant, dot, mixWith, invMixColumns, addRoundKey}
+use Rattle.steps.specs.State.{at, state, fromBlock, toBlock}
+use Rattle.steps.specs.Steps.{bytewise, invSubBytes, shiftRows, invShiftRows, circulant, dot, mixWith, invMixColumns, addRoundKey}
 use Rattle.field.proofs.Fours.{four-ext}
 use Rattle.cipher.specs.Cipher.{invRounds, invCipher}
-use Rattle.cipher.proofs.StateLaws.{StateBytes, at-state, state-ext, state-byte}
-use Rattle.cipher.proofs.MixLaws.{dot-ext}
-use Rattle.prepared.specs.Words.{byteAt}
-use Rattle.prepared.specs.Rounds.{tableRound, lastRound, addWords, roundsBy, mirrored, arranged, blockByRounds}
-use Rattle.prepared.specs.Prepared.{substituted, matrix, Holds, entryRule, unmixed, reversedRule, backwardRule}
-use Rattle.prepared.proofs.TableLaws.{word-byte, table-round, last-round}
+use Rattle.steps.proofs.StateLaws.{StateBytes, at-state, state-ext, state-byte}
+use Rattle.steps.proofs.MixLaws.{dot-ext}
+use Rattle.columns.specs.inner.Words.{byteAt}
+use Rattle.columns.specs.inner.Rounds.{tableRound, lastRound, addWords, roundsBy, mirrored, arranged, decryptsBy, blockByRounds}
+use Rattle.prepared.specs.inner.Parts.{substituted, matrix, unmixed, reversedRule, backwardRule}
+use Rattle.prepared.proofs.KeyLaws.{Scheduled}
+use Rattle.prepared.proofs.TableLaws.{Tabled, word-byte, table-round, last-round}
 use Rattle.prepared.proofs.ForwardLaws.{block-bytes, roundsBy-bytes}
 
 -- ---- InvMixColumns goes through a sum
@@ -64,13 +64,13 @@ unfolding mirrored mixWith at state four dot
 mirrored-mixed first s = refl
 
 -- words whose bytes are a key's, column for mirrored column
-mirrored-added : (words : List ℕ) (round : ℕ) (key : ℕ → ℕ → ℕ)
-    → ((r c : ℕ) → r < 4 → c < 4 → byteAt (getD words (4 * round + c) 0) r ≡ key r ((4 - c) % 4))
-    → (s : List (List ℕ)) → mirrored (addWords words round s) ≡ addAt key (mirrored s)
+mirrored-added : (p : List ℕ) (round : ℕ) (key : ℕ → ℕ → ℕ)
+    → ((r c : ℕ) → r < 4 → c < 4 → byteAt (getD p (1280 + 4 * round + c) 0) r ≡ key r ((4 - c) % 4))
+    → (s : List (List ℕ)) → mirrored (addWords p round s) ≡ addAt key (mirrored s)
 unfolding mirrored addWords addAt
-mirrored-added words round key e s =
-    state-ext (λ r c. at (addWords words round s) r ((4 - c) % 4)) (λ r c. xor (at (mirrored s) r c) (key r c))
-    (λ r c hr hc. at-state (λ r c. xor (at s r c) (byteAt (getD words (4 * round + c) 0) r)) r ((4 - c) % 4) hr (omega arith)
+mirrored-added p round key e s =
+    state-ext (λ r c. at (addWords p round s) r ((4 - c) % 4)) (λ r c. xor (at (mirrored s) r c) (key r c))
+    (λ r c hr hc. at-state (λ r c. xor (at s r c) (byteAt (getD p (1280 + 4 * round + c) 0) r)) r ((4 - c) % 4) hr (omega arith)
     ∙ ap₂ xor (sym (at-state (λ r c. at s r ((4 - c) % 4)) r c hr hc)) (e r ((4 - c) % 4) hr (omega arith) ∙ ap (key r) (twice c hc)))
   where
     twice : (c : ℕ) → c < 4 → (4 - (4 - c) % 4) % 4 ≡ c
@@ -120,69 +120,69 @@ module _ (nr : ℕ) (keys : List ℕ) where
   unfolding backwardRule
   rule-last lower c = rw (le-ltb (4 * nr + c) 4 (omega arith), le-ltb (4 * nr + c) (4 * nr) (omega arith))
 
-  module _ {words : List ℕ} (scheduled : Holds (4 * nr + 4) (backwardRule nr keys) words) (round m : ℕ) (h : round ≤ nr) (e : nr - round ≡ m) where
+  module _ {p : List ℕ} (scheduled : Scheduled (4 * nr + 4) (backwardRule nr keys) p) (round m : ℕ) (h : round ≤ nr) (e : nr - round ≡ m) where
     outer-byte : ((c : ℕ) → c < 4 → backwardRule nr keys (4 * round + c) ≡ reversedRule nr keys (4 * round + c))
-        → (r c : ℕ) → r < 4 → c < 4 → byteAt (getD words (4 * round + c) 0) r ≡ keyAt keys m r ((4 - c) % 4)
-    outer-byte p r c hr hc =
-        word-byte (getD words (4 * round + c) 0) (λ r. keyAt keys m r ((4 - c) % 4))
-        (scheduled .word (4 * round + c) (omega arith) ∙ p c hc ∙ reversed round c hc ∙ ap (λ n. four (λ r. keyAt keys n r ((4 - c) % 4))) e) r hr
+        → (r c : ℕ) → r < 4 → c < 4 → byteAt (getD p (1280 + 4 * round + c) 0) r ≡ keyAt keys m r ((4 - c) % 4)
+    outer-byte rule r c hr hc =
+        word-byte (getD p (1280 + 4 * round + c) 0) (λ r. keyAt keys m r ((4 - c) % 4))
+        (scheduled .word (1280 + 4 * round + c) (4 * round + c) (omega arith) (omega arith) ∙ rule c hc ∙ reversed round c hc ∙ ap (λ n. four (λ r. keyAt keys n r ((4 - c) % 4))) e) r hr
 
     middle-byte : ((c : ℕ) → c < 4 → backwardRule nr keys (4 * round + c) ≡ unmixed (reversedRule nr keys (4 * round + c)))
-        → (r c : ℕ) → r < 4 → c < 4 → byteAt (getD words (4 * round + c) 0) r ≡ dot (circulant (matrix true) r) (λ k. keyAt keys m k ((4 - c) % 4))
-    middle-byte p r c hr hc =
-        word-byte (getD words (4 * round + c) 0) (λ r. dot (circulant (matrix true) r) (λ k. keyAt keys m k ((4 - c) % 4)))
-        (scheduled .word (4 * round + c) (omega arith) ∙ p c hc ∙ ap unmixed (reversed round c hc ∙ ap (λ n. four (λ r. keyAt keys n r ((4 - c) % 4))) e)
+        → (r c : ℕ) → r < 4 → c < 4 → byteAt (getD p (1280 + 4 * round + c) 0) r ≡ dot (circulant (matrix true) r) (λ k. keyAt keys m k ((4 - c) % 4))
+    middle-byte rule r c hr hc =
+        word-byte (getD p (1280 + 4 * round + c) 0) (λ r. dot (circulant (matrix true) r) (λ k. keyAt keys m k ((4 - c) % 4)))
+        (scheduled .word (1280 + 4 * round + c) (4 * round + c) (omega arith) (omega arith) ∙ rule c hc ∙ ap unmixed (reversed round c hc ∙ ap (λ n. four (λ r. keyAt keys n r ((4 - c) % 4))) e)
         ∙ unmixed-column (λ k. keyAt keys m k ((4 - c) % 4))) r hr
 
 -- ---- the rounds
 
-module _ (nr : ℕ) (lower : 0 < nr) (keys : List ℕ) {last table words : List ℕ} (tab : Tabulates (substituted true) last) (held : Holds 1024 (entryRule true last) table)
-    (scheduled : Holds (4 * nr + 4) (backwardRule nr keys) words) where
-  first-back : (s : List (List ℕ)) → mirrored (addWords words 0 (mirrored s)) ≡ addRoundKey keys nr s
+module _ (nr : ℕ) (lower : 0 < nr) (keys : List ℕ) {p : List ℕ} (tab : Tabled true p) (scheduled : Scheduled (4 * nr + 4) (backwardRule nr keys) p) where
+  first-back : (s : List (List ℕ)) → mirrored (addWords p 0 (mirrored s)) ≡ addRoundKey keys nr s
   unfolding addRoundKey addAt keyAt
   first-back s =
-      mirrored-added words 0 (keyAt keys nr) (outer-byte nr keys scheduled 0 nr (omega arith) (omega arith) (rule-first nr keys)) (mirrored s)
+      mirrored-added p 0 (keyAt keys nr) (outer-byte nr keys scheduled 0 nr (omega arith) (omega arith) (rule-first nr keys)) (mirrored s)
       ∙ mirrored-twice (keyAt keys nr) s
 
   round-back : (round m : ℕ) → 0 < round → round < nr → nr - round ≡ m → {s : List (List ℕ)} → StateBytes s
-      → mirrored (addWords words round (tableRound table s)) ≡ invMixColumns (addRoundKey keys m (invSubBytes (invShiftRows (mirrored s))))
+      → mirrored (addWords p round (tableRound p s)) ≡ invMixColumns (addRoundKey keys m (invSubBytes (invShiftRows (mirrored s))))
   unfolding invMixColumns matrix addRoundKey addAt keyAt
   round-back round m above below e {s} h =
-      mirrored-added words round (λ r c. dot (circulant (matrix true) r) (λ k. keyAt keys m k c))
-      (middle-byte nr keys scheduled round m (omega arith) e (λ c. rule-middle nr keys round c above below)) (tableRound table s)
+      mirrored-added p round (λ r c. dot (circulant (matrix true) r) (λ k. keyAt keys m k c))
+      (middle-byte nr keys scheduled round m (omega arith) e (λ c. rule-middle nr keys round c above below)) (tableRound p s)
       ∙ ap (addAt (λ r c. dot (circulant (matrix true) r) (λ k. keyAt keys m k c)))
-      (ap mirrored (table-round true tab held h) ∙ mirrored-mixed (matrix true) (shiftRows (bytewise (substituted true) s)) ∙ ap (mixWith (matrix true)) (mirrored-shifted s))
+      (ap mirrored (table-round true tab h) ∙ mirrored-mixed (matrix true) (shiftRows (bytewise (substituted true) s)) ∙ ap (mixWith (matrix true)) (mirrored-shifted s))
       ∙ sym (mixWith-added (matrix true) (keyAt keys m) (invSubBytes (invShiftRows (mirrored s))))
 
-  last-back : {s : List (List ℕ)} → StateBytes s → mirrored (addWords words nr (lastRound last s)) ≡ addRoundKey keys 0 (invSubBytes (invShiftRows (mirrored s)))
+  last-back : {s : List (List ℕ)} → StateBytes s → mirrored (addWords p nr (lastRound p s)) ≡ addRoundKey keys 0 (invSubBytes (invShiftRows (mirrored s)))
   unfolding addRoundKey addAt keyAt
   last-back {s} h =
-      mirrored-added words nr (keyAt keys 0) (outer-byte nr keys scheduled nr 0 (omega arith) (omega arith) (λ c hc. rule-last nr keys lower c)) (lastRound last s)
-      ∙ ap (addAt (keyAt keys 0)) (ap mirrored (last-round true tab held h) ∙ mirrored-shifted s)
+      mirrored-added p nr (keyAt keys 0) (outer-byte nr keys scheduled nr 0 (omega arith) (omega arith) (λ c hc. rule-last nr keys lower c)) (lastRound p s)
+      ∙ ap (addAt (keyAt keys 0)) (ap mirrored (last-round true tab h) ∙ mirrored-shifted s)
 
   -- what is left of the inverse cipher's rounds after j of them
   rounds-back : (j : ℕ) → j < nr → {s : List (List ℕ)} → StateBytes s
-      → invRounds keys (nr - 1) (mirrored (roundsBy table words 0 s)) ≡ invRounds keys (nr - 1 - j) (mirrored (roundsBy table words j s))
+      → invRounds keys (nr - 1) (mirrored (roundsBy p 0 s)) ≡ invRounds keys (nr - 1 - j) (mirrored (roundsBy p j s))
   unfolding roundsBy invRounds
-  rounds-back zero h {s} q = ap (λ n. invRounds keys n (mirrored (roundsBy table words 0 s))) none
+  rounds-back zero h {s} q = ap (λ n. invRounds keys n (mirrored (roundsBy p 0 s))) none
     where
       none : nr - 1 ≡ nr - 1 - 0
       none = omega arith
   rounds-back (suc j) h {s} q =
-      rounds-back j (omega arith) q ∙ ap (λ n. invRounds keys n (mirrored (roundsBy table words j s))) more
-      ∙ ap (invRounds keys (nr - 1 - suc j)) (sym (round-back (suc j) (suc (nr - 1 - suc j)) (omega arith) h (omega arith) (roundsBy-bytes table words j q)))
+      rounds-back j (omega arith) q ∙ ap (λ n. invRounds keys n (mirrored (roundsBy p j s))) more
+      ∙ ap (invRounds keys (nr - 1 - suc j)) (sym (round-back (suc j) (suc (nr - 1 - suc j)) (omega arith) h (omega arith) (roundsBy-bytes p j q)))
     where
       more : nr - 1 - j ≡ suc (nr - 1 - suc j)
       more = omega arith
 
-  pub backward-cipher : {b : List ℕ} → Block b → blockByRounds true nr table last words b ≡ invCipher nr keys b
+  pub backward-cipher : decryptsBy p ≡ true → {b : List ℕ} → Block b → blockByRounds p nr b ≡ invCipher nr keys b
   unfolding blockByRounds arranged invCipher invRounds roundsBy
-  backward-cipher {b} q =
+  backward-cipher way {b} q =
       let s : StateBytes (mirrored (fromBlock b)) = mirrored-bytes (block-bytes q) in
       let done : nr - 1 - (nr - 1) ≡ 0 = omega arith in
-      ap toBlock
-      (last-back (roundsBy-bytes table words (nr - 1) s)
+      rw way
+      (ap toBlock
+      (last-back (roundsBy-bytes p (nr - 1) s)
       ∙ ap (λ x. addRoundKey keys 0 (invSubBytes (invShiftRows x)))
       (sym
       (ap (invRounds keys (nr - 1)) (sym (first-back (fromBlock b))) ∙ rounds-back (nr - 1) (omega arith) s
-      ∙ ap (λ n. invRounds keys n (mirrored (roundsBy table words (nr - 1) (mirrored (fromBlock b))))) done)))
+      ∙ ap (λ n. invRounds keys n (mirrored (roundsBy p (nr - 1) (mirrored (fromBlock b))))) done))))

@@ -10,10 +10,10 @@ use Rattle.field.specs.Field.{double, product}
 use Rattle.field.specs.Rows.{four}
 use Rattle.field.proofs.FieldLaws.{double-xor, double-byte, times-one, times-two, times-three, times-nine, times-eleven, times-thirteen, times-fourteen}
 use Rattle.field.proofs.RowLaws.{join-four}
-use Rattle.cipher.specs.Steps.{circulant, dot}
-use Rattle.prepared.specs.Words.{byteAt, wordBytes}
-use Rattle.prepared.specs.Prepared.{matrix, columnTimes, unmixed}
-use Rattle.prepared.proofs.ByteLaws.{same-four, bytes-joined, sum-bytes}
+use Rattle.steps.specs.Steps.{circulant, dot}
+use Rattle.columns.specs.inner.Words.{byteAt, wordBytes}
+use Rattle.prepared.specs.inner.Parts.{matrix, columnTimes, unmixed}
+use Rattle.columns.proofs.ByteLaws.{same-four, bytes-joined, sum-bytes}
 
 -- ---- the entries
 

@@ -10,14 +10,31 @@ use lib.Seq.{getD-set-same, getD-set-other}
 use borrow.Author.Tests.{ltb-true, ltb-false, lt-ltb, le-ltb, eqb-true, eqb-false}
 use Rattle.bits.proofs.Tables.{stored-next}
 use Rattle.field.specs.Rows as Rows
-use Rattle.prepared.specs.Words.{byteAt, wordBytes}
-use Rattle.prepared.specs.Prepared.{Holds, zeroFrom, Unmixed, unmixed}
+use Rattle.columns.specs.inner.Words.{byteAt, wordBytes}
+use Rattle.prepared.specs.inner.Parts.{Holds, Filled, zeroFrom, Unmixed, unmixed}
 
 pub held-none : (rule : ℕ → List ℕ) (words : List ℕ) → Holds 0 rule words
 held-none rule words = record { word = λ i h. absurd (omega arith) }
 
 pub held-all : {i n : ℕ} {rule : ℕ → List ℕ} {words : List ℕ} → n ≤ i → Holds i rule words → Holds n rule words
 held-all p h = record { word = λ j hj. h .word j (omega arith) }
+
+-- behind what follows a rule, one part more that does
+pub held-more : {a b : ℕ} {rule part : ℕ → List ℕ} {before after : List ℕ} → Holds a rule before → Filled a b part before after
+    → ((i : ℕ) → a ≤ i → i < b → part i ≡ rule i) → Holds b rule after
+held-more {a} {b} {rule} {part} {before} {after} h f same = record { word = λ i hi. go i hi (ltb i a) refl }
+  where
+    go : (i : ℕ) → i < b → (t : Bool) → ltb i a ≡ t → wordBytes (getD after i 0) ≡ rule i
+    go i hi true e = ap wordBytes (f .kept i (ltb-true i a e)) ∙ h .word i (ltb-true i a e)
+    go i hi false e = f .word i (ltb-false i a e) hi ∙ same i (ltb-false i a e) hi
+
+-- ---- a part from one place on
+
+pub filled-none : (start : ℕ) (rule : ℕ → List ℕ) (words : List ℕ) → Filled start start rule words words
+filled-none start rule words = record { kept = λ i h. refl; word = λ i l h. absurd (omega arith) }
+
+pub filled-all : {start i n : ℕ} {rule : ℕ → List ℕ} {before after : List ℕ} → i ≡ n → Filled start i rule before after → Filled start n rule before after
+filled-all e f = rw (sym e) f
 
 -- ---- zero from a count on
 
@@ -43,6 +60,13 @@ module _ (l : List ℕ) (i v : ℕ) (room : i < length l) where
 
   pub held-next : (rule : ℕ → List ℕ) → Holds i rule l → wordBytes v ≡ rule i → Holds (i + 1) rule (set l i v)
   held-next rule h e = record { word = stored-next l i v room (λ j x. wordBytes x ≡ rule j) (h .word) e }
+
+  pub filled-next : {start : ℕ} {rule : ℕ → List ℕ} {before : List ℕ} → start ≤ i → Filled start i rule before l → wordBytes v ≡ rule i → Filled start (i + 1) rule before (set l i v)
+  filled-next {start} {rule} {before} past f e =
+      record {
+        kept = λ j hj. kept j (λ x. omega arith) ∙ f .kept j hj;
+        word = λ j lower hj. stored-next l i v room (λ j x. start ≤ j → wordBytes x ≡ rule j) (λ j hj lower. f .word j lower hj) (λ lower. e) j hj lower;
+      }
 
   pub zero-next : (n : ℕ) (rule : ℕ → List ℕ) → Holds n (zeroFrom i rule) l → wordBytes v ≡ rule i → Holds n (zeroFrom (i + 1) rule) (set l i v)
   zero-next n rule h e = record { word = λ j hj. go j hj (eqb j i) (ltb j i) refl refl }

@@ -8,61 +8,59 @@ use lib.ListN.{getD}
 use Rattle.bits.specs.Xor.{xor}
 use Rattle.bits.specs.Blocks.{Block}
 use Rattle.bits.proofs.Xor as Xor
-use Rattle.field.specs.Boxes.{Tabulates}
 use Rattle.field.specs.Rows.{wordAt}
-use Rattle.cipher.specs.State.{at, fromBlock, toBlock}
-use Rattle.cipher.specs.Steps.{subBytes, shiftRows, mixColumns, addRoundKey}
+use Rattle.steps.specs.State.{at, fromBlock, toBlock}
+use Rattle.steps.specs.Steps.{subBytes, shiftRows, mixColumns, addRoundKey}
 use Rattle.cipher.specs.Cipher.{rounds, cipher}
-use Rattle.cipher.proofs.StateLaws.{StateBytes, state-ext, state-byte, fromBlock-square}
-use Rattle.prepared.specs.Words.{byteAt}
-use Rattle.prepared.specs.Rounds.{tableRound, lastRound, addWords, roundsBy, arranged, blockByRounds}
-use Rattle.prepared.specs.Prepared.{substituted, matrix, Holds, entryRule}
-use Rattle.prepared.proofs.ByteLaws.{byte-small}
-use Rattle.prepared.proofs.TableLaws.{word-byte, tableRound-bytes, table-round, last-round}
+use Rattle.steps.proofs.StateLaws.{StateBytes, state-ext, state-byte, fromBlock-square}
+use Rattle.columns.specs.inner.Words.{byteAt}
+use Rattle.columns.specs.inner.Rounds.{tableRound, lastRound, addWords, roundsBy, arranged, decryptsBy, blockByRounds}
+use Rattle.prepared.specs.inner.Parts.{substituted, matrix}
+use Rattle.columns.proofs.ByteLaws.{byte-small}
+use Rattle.prepared.proofs.KeyLaws.{Scheduled}
+use Rattle.prepared.proofs.TableLaws.{Tabled, word-byte, tableRound-bytes, table-round, last-round}
 
 -- ---- the states stay bytes
 
 pub block-bytes : {b : List ℕ} → Block b → StateBytes (fromBlock b)
 block-bytes h = record { byte = fromBlock-square (h .bytes) .byte }
 
-addWords-bytes : (words : List ℕ) (round : ℕ) {s : List (List ℕ)} → StateBytes s → StateBytes (addWords words round s)
+addWords-bytes : (p : List ℕ) (round : ℕ) {s : List (List ℕ)} → StateBytes s → StateBytes (addWords p round s)
 unfolding addWords
-addWords-bytes words round {s} h =
-    record { byte = state-byte (λ r c. xor (at s r c) (byteAt (getD words (4 * round + c) 0) r)) (λ r c. Xor.width 8 (h .byte r c) (byte-small _ r)) }
+addWords-bytes p round {s} h =
+    record { byte = state-byte (λ r c. xor (at s r c) (byteAt (getD p (1280 + 4 * round + c) 0) r)) (λ r c. Xor.width 8 (h .byte r c) (byte-small _ r)) }
 
-pub roundsBy-bytes : (table words : List ℕ) (k : ℕ) {s : List (List ℕ)} → StateBytes s → StateBytes (roundsBy table words k s)
+pub roundsBy-bytes : (p : List ℕ) (k : ℕ) {s : List (List ℕ)} → StateBytes s → StateBytes (roundsBy p k s)
 unfolding roundsBy
-roundsBy-bytes table words zero h = addWords-bytes words 0 h
-roundsBy-bytes table words (suc k) {s} h = addWords-bytes words (suc k) (tableRound-bytes table (roundsBy table words k s))
+roundsBy-bytes p zero h = addWords-bytes p 0 h
+roundsBy-bytes p (suc k) {s} h = addWords-bytes p (suc k) (tableRound-bytes p (roundsBy p k s))
 
 -- ---- the cipher
 
-module _ (keys : List ℕ) {last table words : List ℕ} (tab : Tabulates (substituted false) last) (held : Holds 1024 (entryRule false last) table)
-    (scheduled : Holds 60 (wordAt keys) words) where
-  words-added : (round : ℕ) → round < 15 → (s : List (List ℕ)) → addWords words round s ≡ addRoundKey keys round s
+module _ (keys : List ℕ) {p : List ℕ} (tab : Tabled false p) (scheduled : Scheduled 60 (wordAt keys) p) where
+  words-added : (round : ℕ) → round < 15 → (s : List (List ℕ)) → addWords p round s ≡ addRoundKey keys round s
   unfolding addWords addRoundKey wordAt
   words-added round h s =
-      state-ext (λ r c. xor (at s r c) (byteAt (getD words (4 * round + c) 0) r)) (λ r c. xor (at s r c) (getD keys (16 * round + (4 * c + r)) 0))
+      state-ext (λ r c. xor (at s r c) (byteAt (getD p (1280 + 4 * round + c) 0) r)) (λ r c. xor (at s r c) (getD keys (16 * round + (4 * c + r)) 0))
       (λ r c hr hc. ap (xor (at s r c))
-      (word-byte (getD words (4 * round + c) 0) (λ r. getD keys (4 * (4 * round + c) + r) 0) (scheduled .word (4 * round + c) (omega arith)) r hr
+      (word-byte (getD p (1280 + 4 * round + c) 0) (λ r. getD keys (4 * (4 * round + c) + r) 0) (scheduled .word (1280 + 4 * round + c) (4 * round + c) (omega arith) (omega arith)) r hr
       ∙ ap (λ n. getD keys n 0) (place r c)))
     where
       place : (r c : ℕ) → 4 * (4 * round + c) + r ≡ 16 * round + (4 * c + r)
       place r c = omega arith
 
-  rounds-forward : (k : ℕ) → k < 15 → {s : List (List ℕ)} → StateBytes s → roundsBy table words k s ≡ rounds keys k s
+  rounds-forward : (k : ℕ) → k < 15 → {s : List (List ℕ)} → StateBytes s → roundsBy p k s ≡ rounds keys k s
   unfolding roundsBy rounds mixColumns subBytes matrix substituted
   rounds-forward zero h {s} q = words-added 0 h s
   rounds-forward (suc k) h {s} q =
-      words-added (suc k) h (tableRound table (roundsBy table words k s))
-      ∙ ap (addRoundKey keys (suc k)) (table-round false tab held (roundsBy-bytes table words k q))
+      words-added (suc k) h (tableRound p (roundsBy p k s)) ∙ ap (addRoundKey keys (suc k)) (table-round false tab (roundsBy-bytes p k q))
       ∙ ap (λ x. addRoundKey keys (suc k) (mixColumns (shiftRows (subBytes x)))) (rounds-forward k (omega arith) q)
 
-  pub forward-cipher : (nr : ℕ) → nr ≤ 14 → {b : List ℕ} → Block b → blockByRounds false nr table last words b ≡ cipher nr keys b
+  pub forward-cipher : decryptsBy p ≡ false → (nr : ℕ) → nr ≤ 14 → {b : List ℕ} → Block b → blockByRounds p nr b ≡ cipher nr keys b
   unfolding blockByRounds arranged cipher subBytes substituted
-  forward-cipher nr h {b} q =
+  forward-cipher way nr h {b} q =
       let s : StateBytes (fromBlock b) = block-bytes q in
-      ap toBlock
-      (words-added nr (omega arith) (lastRound last (roundsBy table words (nr - 1) (fromBlock b)))
-      ∙ ap (addRoundKey keys nr) (last-round false tab held (roundsBy-bytes table words (nr - 1) s))
-      ∙ ap (λ x. addRoundKey keys nr (shiftRows (subBytes x))) (rounds-forward (nr - 1) (omega arith) s))
+      rw way
+      (ap toBlock
+      (words-added nr (omega arith) (lastRound p (roundsBy p (nr - 1) (fromBlock b))) ∙ ap (addRoundKey keys nr) (last-round false tab (roundsBy-bytes p (nr - 1) s))
+      ∙ ap (λ x. addRoundKey keys nr (shiftRows (subBytes x))) (rounds-forward (nr - 1) (omega arith) s)))

@@ -1,8 +1,8 @@
--- The words of the round keys: where the code finds their bytes, and the three cases of a schedule. Assumes nothing.
+-- The words of the round keys: where the code finds their bytes, and the three cases of their rule. Assumes nothing.
 use mathlib.Core.Path.{_≡_, refl, sym, ap, _∙_}
 use mathlib.Core.Bool.{Bool, true, false, cond}
 use mathlib.Core.List.{List, [], _∷_}
-use Prim.Native.Nat.{ℕ, _+_, _*_, _≤_, _<_}
+use Prim.Native.Nat.{ℕ, _+_, _-_, _*_, _≤_, _<_}
 use native.Mathlib.Nat.{add-zero}
 use native.Mathlib.Omega.{arith}
 use lib.Dec.{ltb}
@@ -10,9 +10,9 @@ use lib.ListN.{getD, replicate}
 use borrow.Author.Tests.{ltb-true, ltb-false}
 use Rattle.field.specs.Rows.{four, wordAt}
 use Rattle.cipher.specs.Cipher.{roundsOk}
-use Rattle.prepared.specs.Words.{wordBytes}
-use Rattle.prepared.specs.Prepared.{Holds, reversedRule, backwardRule, zeroFrom, wordRule, Unmixed, unmixed}
-use Rattle.prepared.proofs.ByteLaws.{same-four}
+use Rattle.columns.specs.inner.Words.{wordBytes}
+use Rattle.prepared.specs.inner.Parts.{Holds, Filled, reversedRule, backwardRule, zeroFrom, wordRule, Unmixed, unmixed}
+use Rattle.columns.proofs.ByteLaws.{same-four}
 use Rattle.prepared.proofs.FillLaws.{zero-before, zero-after, zero-bytes}
 
 pub key-placed : (w : List ℕ) (i : ℕ) {l : List ℕ} → l ≡ getD w (4 * i) 0 ∷ getD w (4 * i + 1) 0 ∷ getD w (4 * i + 2) 0 ∷ getD w (4 * i + 3) 0 ∷ [] → l ≡ wordAt w i
@@ -46,30 +46,39 @@ module _ (rounds : ℕ) (keys : List ℕ) {reversed words : List ℕ} (h : Holds
           ap wordBytes (u .behind i (omega arith)) ∙ h .word i hi ∙ zero-after (4 * rounds + 4) (reversedRule rounds keys) i above
           ∙ sym (zero-after (4 * rounds + 4) (backwardRule rounds keys) i above)
 
--- The three cases, and what the first and the last give back.
-module _ (decrypting : Bool) (rounds : ℕ) (keys : List ℕ) where
-  pub scheduled-backward : {reversed words : List ℕ} → decrypting ≡ true → roundsOk rounds ≡ true → Holds 60 (zeroFrom (4 * rounds + 4) (reversedRule rounds keys)) reversed
-      → Unmixed (4 * rounds) reversed words → Holds 60 (wordRule decrypting rounds keys) words
+-- The words of decryption, and how the words of each direction are filled in.
+module _ (rounds : ℕ) (keys : List ℕ) where
+  pub scheduled-backward : {reversed words : List ℕ} → roundsOk rounds ≡ true → Holds 60 (zeroFrom (4 * rounds + 4) (reversedRule rounds keys)) reversed
+      → Unmixed (4 * rounds) reversed words → Holds 60 (wordRule true rounds keys) words
   unfolding wordRule
-  scheduled-backward p q h u = rw p (rw q (backward-held rounds keys h u))
+  scheduled-backward q h u = rw q (backward-held rounds keys h u)
 
-  pub scheduled-refused : decrypting ≡ true → roundsOk rounds ≡ false → Holds 60 (wordRule decrypting rounds keys) (replicate 60 0)
+  pub scheduled-refused : roundsOk rounds ≡ false → Holds 60 (wordRule true rounds keys) (replicate 60 0)
   unfolding wordRule
-  scheduled-refused p q = rw p (rw q (zero-bytes 60 (backwardRule rounds keys)))
+  scheduled-refused q = rw q (zero-bytes 60 (backwardRule rounds keys))
 
-  pub scheduled-forward : {words : List ℕ} → decrypting ≡ false → Holds 60 (wordAt keys) words → Holds 60 (wordRule decrypting rounds keys) words
+  pub filled-backward : {decrypting : Bool} {words before after : List ℕ} → decrypting ≡ true → Holds 60 (wordRule true rounds keys) words
+      → Filled 1280 1340 (λ i. wordBytes (getD words (i - 1280) 0)) before after → Filled 1280 1340 (λ i. wordRule decrypting rounds keys (i - 1280)) before after
+  filled-backward p h f = rw p (record { kept = f .kept; word = λ i l u. f .word i l u ∙ h .word (i - 1280) (omega arith) })
+
+  pub filled-forward : {decrypting : Bool} {before after : List ℕ} → decrypting ≡ false → Filled 1280 1340 (λ i. wordAt keys (i - 1280)) before after
+      → Filled 1280 1340 (λ i. wordRule decrypting rounds keys (i - 1280)) before after
   unfolding wordRule
-  scheduled-forward p h = rw p h
+  filled-forward p f = rw p f
 
-pub scheduled-enc : (rounds : ℕ) (keys : List ℕ) {words : List ℕ} → Holds 60 (wordRule false rounds keys) words → Holds 60 (wordAt keys) words
+-- The words of the round keys, where the rounds read them.
+pub record Scheduled (count : ℕ) (rule : ℕ → List ℕ) (p : List ℕ) : Type 0 where
+  pub word : (place i : ℕ) → place ≡ 1280 + i → i < count → wordBytes (getD p place 0) ≡ rule i
+
+pub scheduled-enc : (rounds : ℕ) (keys : List ℕ) {p : List ℕ} → Scheduled 60 (wordRule false rounds keys) p → Scheduled 60 (wordAt keys) p
 unfolding wordRule
 scheduled-enc rounds keys h = h
 
-pub scheduled-dec : (rounds : ℕ) (keys : List ℕ) {words : List ℕ} → roundsOk rounds ≡ true → 4 * rounds + 4 ≤ 60
-    → Holds 60 (wordRule true rounds keys) words → Holds (4 * rounds + 4) (backwardRule rounds keys) words
+pub scheduled-dec : (rounds : ℕ) (keys : List ℕ) {p : List ℕ} → roundsOk rounds ≡ true → 4 * rounds + 4 ≤ 60
+    → Scheduled 60 (wordRule true rounds keys) p → Scheduled (4 * rounds + 4) (backwardRule rounds keys) p
 unfolding wordRule
 scheduled-dec rounds keys ok few h =
     record {
-      word = λ i hi. h .word i (omega arith) ∙ ap (λ b. zeroFrom (cond b (4 * rounds + 4) 0) (backwardRule rounds keys) i) ok
+      word = λ place i e hi. h .word place i e (omega arith) ∙ ap (λ b. zeroFrom (cond b (4 * rounds + 4) 0) (backwardRule rounds keys) i) ok
           ∙ zero-before (4 * rounds + 4) (backwardRule rounds keys) i hi;
     }

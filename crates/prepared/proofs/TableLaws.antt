@@ -9,18 +9,17 @@ use lib.ListN.{getD}
 use Rattle.bits.specs.Xor.{xor}
 use Rattle.bits.proofs.Xor as Xor
 use Rattle.field.specs.Field.{product}
-use Rattle.field.specs.Boxes.{subByte, invSubByte, Tabulates}
+use Rattle.boxes.specs.Boxes.{subByte, invSubByte, Tabulates}
 use Rattle.field.specs.Rows.{four}
 use Rattle.field.proofs.Fours.{four-at}
-use Rattle.cipher.specs.State.{at, state}
-use Rattle.cipher.specs.Steps.{bytewise, shiftRows, circulant, dot, mixWith}
-use Rattle.cipher.proofs.StateLaws.{StateBytes, at-state, state-ext, state-byte}
-use Rattle.cipher.proofs.StepLaws.{bytewise-table}
-use Rattle.cipher.proofs.MixLaws.{dot-ext}
-use Rattle.prepared.specs.Words.{byteAt, wordBytes}
-use Rattle.prepared.specs.Rounds.{entrySum, tableRound, lastRound}
-use Rattle.prepared.specs.Prepared.{substituted, matrix, columnTimes, Holds, entryRule}
-use Rattle.prepared.proofs.ByteLaws.{byte-small, same-four}
+use Rattle.steps.specs.State.{at, state}
+use Rattle.steps.specs.Steps.{bytewise, shiftRows, circulant, dot, mixWith}
+use Rattle.steps.proofs.StateLaws.{StateBytes, at-state, state-ext, state-byte}
+use Rattle.steps.proofs.MixLaws.{dot-ext}
+use Rattle.columns.specs.inner.Words.{byteAt, wordBytes}
+use Rattle.columns.specs.inner.Rounds.{entrySum, lastByte, tableRound, lastRound}
+use Rattle.prepared.specs.inner.Parts.{substituted, matrix, columnTimes, entryRule}
+use Rattle.columns.proofs.ByteLaws.{byte-small, same-four}
 
 pub substituted-back : {decrypting : Bool} {table : List ℕ} → decrypting ≡ true → Tabulates invSubByte table → Tabulates (substituted decrypting) table
 unfolding substituted
@@ -69,30 +68,33 @@ module _ (decrypting : Bool) (last : List ℕ) where
 
 -- ---- the rounds
 
-pub tableRound-bytes : (table : List ℕ) (s : List (List ℕ)) → StateBytes (tableRound table s)
+pub tableRound-bytes : (p : List ℕ) (s : List (List ℕ)) → StateBytes (tableRound p s)
 unfolding tableRound entrySum
-tableRound-bytes table s =
-    record { byte = state-byte (λ r c. entrySum table (λ k. at s k ((c + k) % 4)) r) (λ r c. Xor.width 8 (byte-small _ _) (Xor.width 8 (byte-small _ _) (Xor.width 8 (byte-small _ _) (byte-small _ _)))) }
+tableRound-bytes p s =
+    record { byte = state-byte (λ r c. entrySum p (λ k. at s k ((c + k) % 4)) r) (λ r c. Xor.width 8 (byte-small _ _) (Xor.width 8 (byte-small _ _) (Xor.width 8 (byte-small _ _) (byte-small _ _)))) }
 
-module _ (decrypting : Bool) {last table : List ℕ} (tab : Tabulates (substituted decrypting) last) (held : Holds 1024 (entryRule decrypting last) table) where
-  entry-byte : (b r k : ℕ) → b < 256 → r < 4 → k < 4 → byteAt (getD table (256 * k + b) 0) r ≡ product (circulant (matrix decrypting) r k) (substituted decrypting b)
+-- Both tables, where the rounds read them.
+pub record Tabled (decrypting : Bool) (p : List ℕ) : Type 0 where
+  pub entry : (b k : ℕ) → b < 256 → k < 4 → wordBytes (getD p (256 * k + b) 0) ≡ columnTimes decrypting k (substituted decrypting b)
+  pub last : (b : ℕ) → b < 256 → lastByte p b ≡ substituted decrypting b
+
+module _ (decrypting : Bool) {p : List ℕ} (tab : Tabled decrypting p) where
+  entry-byte : (b r k : ℕ) → b < 256 → r < 4 → k < 4 → byteAt (getD p (256 * k + b) 0) r ≡ product (circulant (matrix decrypting) r k) (substituted decrypting b)
   unfolding columnTimes
   entry-byte b r k hb hr hk =
-      word-byte (getD table (256 * k + b) 0) (λ r. product (circulant (matrix decrypting) r k) (getD last b 0))
-      (held .word (256 * k + b) (omega arith) ∙ entry-at decrypting last k b (256 * k + b) hb refl) r hr
-      ∙ ap (product (circulant (matrix decrypting) r k)) (tab .entry b hb)
+      word-byte (getD p (256 * k + b) 0) (λ r. product (circulant (matrix decrypting) r k) (substituted decrypting b)) (tab .entry b k hb hk) r hr
 
-  entry-sum : (x : ℕ → ℕ) → ((k : ℕ) → x k < 256) → (r : ℕ) → r < 4 → entrySum table x r ≡ dot (circulant (matrix decrypting) r) (λ k. substituted decrypting (x k))
+  entry-sum : (x : ℕ → ℕ) → ((k : ℕ) → x k < 256) → (r : ℕ) → r < 4 → entrySum p x r ≡ dot (circulant (matrix decrypting) r) (λ k. substituted decrypting (x k))
   unfolding entrySum dot
   entry-sum x h r hr =
       ap₂ xor (entry-byte (x 0) r 0 (h 0) hr (omega arith))
       (ap₂ xor (entry-byte (x 1) r 1 (h 1) hr (omega arith)) (ap₂ xor (entry-byte (x 2) r 2 (h 2) hr (omega arith)) (entry-byte (x 3) r 3 (h 3) hr (omega arith))))
 
   module _ {s : List (List ℕ)} (h : StateBytes s) where
-    pub table-round : tableRound table s ≡ mixWith (matrix decrypting) (shiftRows (bytewise (substituted decrypting) s))
+    pub table-round : tableRound p s ≡ mixWith (matrix decrypting) (shiftRows (bytewise (substituted decrypting) s))
     unfolding tableRound mixWith shiftRows bytewise
     table-round =
-        state-ext (λ r c. entrySum table (λ k. at s k ((c + k) % 4)) r)
+        state-ext (λ r c. entrySum p (λ k. at s k ((c + k) % 4)) r)
         (λ r c. dot (circulant (matrix decrypting) r) (λ k. at (shiftRows (bytewise (substituted decrypting) s)) k c))
         (λ r c hr hc. entry-sum (λ k. at s k ((c + k) % 4)) (λ k. h .byte k ((c + k) % 4)) r hr
         ∙ dot-ext (circulant (matrix decrypting) r) (λ k. substituted decrypting (at s k ((c + k) % 4))) (λ k. at (shiftRows (bytewise (substituted decrypting) s)) k c)
@@ -103,6 +105,6 @@ module _ (decrypting : Bool) {last table : List ℕ} (tab : Tabulates (substitut
             at-state (λ r c. at (state (λ r c. substituted decrypting (at s r c))) r ((c + r) % 4)) k c hk hc
             ∙ at-state (λ r c. substituted decrypting (at s r c)) k ((c + k) % 4) hk (omega arith)
 
-    pub last-round : lastRound last s ≡ shiftRows (bytewise (substituted decrypting) s)
-    unfolding lastRound
-    last-round = ap shiftRows (bytewise-table tab h)
+    pub last-round : lastRound p s ≡ shiftRows (bytewise (substituted decrypting) s)
+    unfolding lastRound bytewise
+    last-round = ap shiftRows (state-ext (λ r c. lastByte p (at s r c)) (λ r c. substituted decrypting (at s r c)) (λ r c hr hc. tab .last (at s r c) (h .byte r c)))

@@ -1,27 +1,45 @@
 // What is prepared once for many blocks.
 use crate::keys;
+use crate::layout::Prepared;
 use crate::table;
+ghost use mathlib.Core.Path.{_≡_};
+ghost use mathlib.Core.Bool.{cond};
+ghost use lib.ListN.{length};
+ghost use Rattle.cipher.specs.Cipher.{roundsOk};
+ghost use Rattle.prepared.specs.inner.Parts.{Filled, endRule};
 ghost use Rattle.prepared.specs.Prepared.{PreparedBy};
 
-// The rounds are not read. They stand behind the table because the compiler parts a struct of arrays only at a number, and else moves
-// the table's 4 KiB once more in each feed.
-pub struct Prepared {
-    pub table: [u32; 1024],
-    pub rounds: usize,
-    pub last: [u8; 256],
-    pub words: [u32; 60],
+// 0 where there is no cipher of so many rounds.
+fn rounds_word(rounds: usize) -> u32
+    ensures { λ r. ⌜ r ≡ cond (roundsOk rounds) rounds 0 ⌝ }
+{
+    if cipher::rounds_ok(rounds) {
+        rounds as u32
+    } else {
+        0
+    }
 }
 
-pub fn prepare(decrypting: bool, rounds: usize, keys: &[u8; 240]) -> Prepared
-    ensures { λ r. ⌜ PreparedBy decrypting rounds (now (keys .entry)) (r .table) (r .rounds) (r .last) (r .words) ⌝ }
+fn direction_word(decrypting: bool) -> u32
+    ensures { λ r. ⌜ r ≡ cond decrypting 1 0 ⌝ }
 {
-    let last = table::substitution(decrypting);
-    let table = table::fill_table(decrypting, &last);
-    let words = keys::schedule(decrypting, rounds, keys);
-    Prepared {
-        table,
-        rounds,
-        last,
-        words,
-    }
+    if decrypting { 1 } else { 0 }
+}
+
+// The last two words.
+fn fill_ends(decrypting: bool, rounds: usize, prepared: &mut [u32])
+    requires { ⌜ length (now prepared) ≡ 1342 ⌝ }
+    ensures { λ r. ⌜ Filled 1340 1342 (endRule decrypting rounds) (now (prepared .entry)) (now (prepared .exit)) ⌝ }
+{
+    prepared[columns::ROUNDS] = rounds_word(rounds);
+    prepared[columns::DIRECTION] = direction_word(decrypting);
+}
+
+// Fills `prepared` for Enc, or for Dec where `decrypting` holds. Nothing is left of what stood there.
+pub fn prepare(decrypting: bool, rounds: usize, keys: &[u8; 240], prepared: &mut Prepared)
+    ensures { λ r. ⌜ PreparedBy decrypting rounds (now (keys .entry)) (now (prepared .exit)) ⌝ }
+{
+    table::fill_tables(decrypting, prepared);
+    keys::fill_words(decrypting, rounds, keys, prepared);
+    fill_ends(decrypting, rounds, prepared);
 }

@@ -1,19 +1,10 @@
-// The two tables of a block function: that of the last round, of bytes, and that of the other rounds, of words.
-use crate::words;
+// The two tables of a block function, of words: that of the rounds, and that of the last round, a byte to a word.
 ghost use mathlib.Core.Path.{_≡_};
-ghost use Rattle.field.specs.Boxes.{Tabulates};
-ghost use Rattle.prepared.specs.Words.{wordBytes};
-ghost use Rattle.prepared.specs.Prepared.{substituted, columnTimes, Holds, entryRule};
-
-pub fn substitution(decrypting: bool) -> [u8; 256]
-    ensures { λ r. ⌜ Tabulates (substituted decrypting) r ⌝ }
-{
-    if decrypting {
-        field::inv_sbox()
-    } else {
-        field::sbox()
-    }
-}
+ghost use Prim.Native.Nat.{_-_};
+ghost use lib.ListN.{length, getD};
+ghost use Rattle.boxes.specs.Boxes.{Tabulates};
+ghost use Rattle.columns.specs.inner.Words.{wordBytes};
+ghost use Rattle.prepared.specs.inner.Parts.{substituted, columnTimes, Holds, Filled, entryRule, byteWord, tableRule};
 
 // A byte times column 0 of the matrix: 02 01 01 03, or 0e 09 0d 0b.
 fn entry(decrypting: bool, b: u8) -> u32
@@ -23,30 +14,63 @@ fn entry(decrypting: bool, b: u8) -> u32
     if decrypting {
         let fourfold = field::double(twice);
         let eightfold = field::double(fourfold);
-        words::word(
+        columns::word(
             eightfold ^ fourfold ^ twice,
             eightfold ^ b,
             eightfold ^ fourfold ^ b,
             eightfold ^ twice ^ b,
         )
     } else {
-        words::word(twice, b, b, twice ^ b)
+        columns::word(twice, b, b, twice ^ b)
     }
 }
 
-// Four parts of 256 entries. Each column of the matrix is the one before it turned by one place, and so each part is.
-pub fn fill_table(decrypting: bool, last: &[u8; 256]) -> [u32; 1024]
-    ensures { λ r. ⌜ Holds 1024 (entryRule decrypting (now (last .entry))) r ⌝ }
+// Four parts of 256 entries. Each column of the matrix is the one before it turned by one byte, and so each part is.
+fn fill_table(decrypting: bool, last: &[u8; 256], prepared: &mut [u32])
+    requires { ⌜ length (now prepared) ≡ 1342 ⌝ }
+    ensures { λ r. ⌜ Holds 1024 (entryRule decrypting (now (last .entry))) (now (prepared .exit)) ⌝ }
 {
-    let mut table = [0; 1024];
     let mut i: usize = 0;
     while i < 256 {
-        table[i] = entry(decrypting, last[i]);
+        prepared[i] = entry(decrypting, last[i]);
         i += 1;
     }
     while i < 1024 {
-        table[i] = words::turn_one(table[i - 256]);
+        prepared[i] = columns::turn_one(prepared[i - 256]);
         i += 1;
     }
-    table
+}
+
+// The table of the last round, behind that of the others.
+fn fill_last(last: &[u8; 256], prepared: &mut [u32])
+    requires { ⌜ length (now prepared) ≡ 1342 ⌝ }
+    ensures { λ r. ⌜ Filled 1024 1280 (λ i. byteWord (getD (now (last .entry)) (i - 1024) 0)) (now (prepared .entry)) (now (prepared .exit)) ⌝ }
+{
+    let mut i = columns::LAST;
+    while i < columns::KEYS {
+        prepared[i] = columns::word(last[i - columns::LAST], 0, 0, 0);
+        i += 1;
+    }
+}
+
+fn fill_both(decrypting: bool, last: &[u8; 256], prepared: &mut [u32])
+    requires { ⌜ (length (now prepared) ≡ 1342) × Tabulates (substituted decrypting) (now last) ⌝ }
+    ensures { λ r. ⌜ Holds 1280 (tableRule decrypting) (now (prepared .exit)) ⌝ }
+{
+    fill_table(decrypting, last, prepared);
+    fill_last(last, prepared);
+}
+
+// A box of its own in each branch: of one that comes out of both the compiler makes two copies.
+pub fn fill_tables(decrypting: bool, prepared: &mut [u32])
+    requires { ⌜ length (now prepared) ≡ 1342 ⌝ }
+    ensures { λ r. ⌜ Holds 1280 (tableRule decrypting) (now (prepared .exit)) ⌝ }
+{
+    if decrypting {
+        let last = boxes::inv_sbox();
+        fill_both(decrypting, &last, prepared);
+        return;
+    }
+    let last = boxes::sbox();
+    fill_both(decrypting, &last, prepared);
 }

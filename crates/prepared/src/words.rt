@@ -1,42 +1,16 @@
-// Words of four bytes, first byte lowest, as they lie in memory.
+// A column of a round key, for decryption.
 ghost use mathlib.Core.Path.{_≡_};
-ghost use mathlib.Core.List.{[], _∷_};
-ghost use Rattle.prepared.specs.Words.{byteAt, wordBytes};
-ghost use Rattle.prepared.specs.Prepared.{unmixed};
-
-pub fn word(a: u8, b: u8, c: u8, d: u8) -> u32
-    ensures { λ r. ⌜ wordBytes r ≡ a ∷ b ∷ c ∷ d ∷ [] ⌝ }
-{
-    (d as u32) * 16777216 + (c as u32) * 65536 + (b as u32) * 256 + (a as u32)
-}
-
-// The bytes moved on by one, two and three places, and those at the end to the front.
-pub fn turn_one(x: u32) -> u32
-    ensures { λ r. ⌜ wordBytes r ≡ byteAt x 3 ∷ byteAt x 0 ∷ byteAt x 1 ∷ byteAt x 2 ∷ [] ⌝ }
-{
-    (x << 8) + (x >> 24)
-}
-
-pub fn turn_two(x: u32) -> u32
-    ensures { λ r. ⌜ wordBytes r ≡ byteAt x 2 ∷ byteAt x 3 ∷ byteAt x 0 ∷ byteAt x 1 ∷ [] ⌝ }
-{
-    (x << 16) + (x >> 16)
-}
-
-pub fn turn_three(x: u32) -> u32
-    ensures { λ r. ⌜ wordBytes r ≡ byteAt x 1 ∷ byteAt x 2 ∷ byteAt x 3 ∷ byteAt x 0 ∷ [] ⌝ }
-{
-    (x << 24) + (x >> 8)
-}
+ghost use Rattle.columns.specs.inner.Words.{wordBytes};
+ghost use Rattle.prepared.specs.inner.Parts.{unmixed};
 
 // InvMixColumns of a column. Its matrix is 08 times the sum of all four bytes, 04 times that of the byte and the one across, 02 times
 // that of the byte and the next, and the other three bytes.
 pub fn unmix(x: u32) -> u32
     ensures { λ r. ⌜ wordBytes r ≡ unmixed (wordBytes x) ⌝ }
 {
-    let next = turn_three(x);
-    let across = turn_two(x);
-    let others = next ^ across ^ turn_one(x);
+    let next = columns::turn_three(x);
+    let across = columns::turn_two(x);
+    let others = next ^ across ^ columns::turn_one(x);
     let eightfold = field::double_row(x ^ others);
     let fourfold = field::double_row(eightfold ^ x ^ across);
     field::double_row(fourfold ^ x ^ next) ^ others

@@ -1,13 +1,16 @@
-// Document 01, "Questions before work": each function answers one question, or gives the number of a call's first 'no'.
+// Document 01, "Questions before work": each function here answers one question; `numbers` has the calls' lists.
+mod numbers;
+
+pub use numbers::feed_number;
+pub use numbers::open_number;
 use rules::Mode;
 ghost use mathlib.Core.Path.{_≡_};
-ghost use mathlib.Core.Bool.{true};
 ghost use Prim.Native.Nat.{_%_};
 ghost use lib.Dec.{eqb};
 ghost use Rattle.bits.specs.Texts.{bytesFor};
 ghost use Rattle.rules.specs.Lengths.{wholeUnits};
 ghost use Rattle.rules.specs.Rules.{unitsIn};
-ghost use Rattle.questions.specs.Questions.{ask, ivOk, sessionOk, bitsOk, roomOk, unitsOk, countersOk, maxUnits, feedQuestions};
+ghost use Rattle.questions.specs.Questions.{ivBytes, sessionOk, bitsOk, roomOk};
 
 // The block, in bytes.
 pub const BLOCK: usize = 16;
@@ -21,16 +24,16 @@ pub const MAX_BITS: usize = 524288;
 // The most units that a session does.
 pub const MAX_UNITS: u64 = 18446744073709551615;
 
-// Question 2, by the IV's length.
-pub fn iv_ok(mode: Mode, iv: &[u8]) -> bool
-    ensures { λ r. ⌜ r ≡ ivOk mode (now (iv .entry)) ⌝ }
+// The IV's length, of question 2.
+fn iv_bytes(mode: Mode) -> usize
+    ensures { λ r. ⌜ r ≡ ivBytes mode ⌝ }
 {
     match mode {
-        Mode::Ecb => iv.len() == 0,
-        Mode::Cbc => iv.len() == BLOCK,
-        Mode::Cfb => iv.len() == BLOCK,
-        Mode::Ofb => iv.len() == BLOCK,
-        Mode::Ctr => iv.len() == BLOCK,
+        Mode::Ecb => 0,
+        Mode::Cbc => BLOCK,
+        Mode::Cfb => BLOCK,
+        Mode::Ofb => BLOCK,
+        Mode::Ctr => BLOCK,
     }
 }
 
@@ -94,25 +97,6 @@ pub fn room_ok(size: usize, place: usize, bytes: usize) -> bool
     }
 }
 
-// Question 9.
-fn units_ok(done: u64, new: usize) -> bool
-    ensures { λ r. ⌜ r ≡ unitsOk maxUnits done new ⌝ }
-{
-    new as u64 <= MAX_UNITS - done
-}
-
-// Question 15, of units that question 9 lets pass: they are fewer than 2^64, so 2^m is needed only where it is less.
-fn counters_ok(m: usize, done: u64, new: usize) -> bool
-    requires { ⌜ unitsOk maxUnits done new ≡ true ⌝ }
-    ensures { λ r. ⌜ r ≡ countersOk m done new ⌝ }
-{
-    if m >= 64 {
-        return true;
-    }
-    let most = 1u64 << m;
-    done + new as u64 <= most
-}
-
 // How many units so many bits have, a short last one included.
 pub fn units_in(n: usize, bits: usize) -> usize
     ensures { λ r. ⌜ r ≡ unitsIn n bits ⌝ }
@@ -132,44 +116,4 @@ pub fn bytes_for(bits: usize) -> usize
     ensures { λ r. ⌜ r ≡ bytesFor bits ⌝ }
 {
     units_in(8, bits)
-}
-
-// A feed's number, questions 4 to 9 and 15 in order.
-pub fn feed_number(
-    mode: Mode,
-    rounds: usize,
-    n: usize,
-    m: usize,
-    closed: bool,
-    units: u64,
-    bytes: usize,
-    bits: usize,
-    size: usize,
-    place: usize,
-) -> u8
-    ensures { λ r. ⌜ r ≡ ask (feedQuestions maxUnits mode rounds n m closed units bytes bits size place) ⌝ }
-{
-    if !session_ok(mode, rounds, n, m) {
-        return 4;
-    }
-    if closed {
-        return 5;
-    }
-    if !bits_ok(MAX_BITS, bytes, bits) {
-        return 6;
-    }
-    if !whole_units(mode, n, bits) {
-        return 7;
-    }
-    if !room_ok(size, place, bytes_for(bits)) {
-        return 8;
-    }
-    let new = units_in(n, bits);
-    if !units_ok(units, new) {
-        return 9;
-    }
-    if !counters_ok(m, units, new) {
-        return 15;
-    }
-    0
 }

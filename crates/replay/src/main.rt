@@ -1,7 +1,7 @@
 // Runs a written list of calls, one to a line of standard input, and prints each call's answer as one line: a recorded
 // transmission is replayed, or a test drives lists of feeds. Bytes are lower-case hexadecimal, `-` for none; numbers are
 // decimal, zeros in front among them, and 64 bits hold them; FILL is the byte that the output holds before the call. BLOCK and R are 16
-// bytes, and of `place` IV and PLACE are too; CLOSED is 0 or 1.
+// bytes, and of `place` IV and INCREMENTS are too; CLOSED is 0 or 1.
 //
 //     open MODE N E|D KEY IV                             NUMBER, of an opening with M = 128
 //     open-counter MODE N M E|D KEY IV                   NUMBER
@@ -13,7 +13,7 @@
 //     keep                                               kept: `alike` compares with this session from now on
 //     alike                                              yes or no
 //     forecast MODE N BITS                               NUMBER BYTES RUNS
-//     place M IV BLOCK                                   NUMBER PLACE, of BLOCK in the message
+//     place M IV BLOCK                                   NUMBER INCREMENTS: how often IV is counted up to BLOCK
 //     pad BITS OUTLEN PLACE FILL INPUT                   NUMBER LENGTH OUT
 //     unpad BITS INPUT                                   NUMBER LENGTH
 //     neighbour IV TEXT J                                the part

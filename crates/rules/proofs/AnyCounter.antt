@@ -9,7 +9,7 @@ use Rattle.rules.specs.declared.Mode.{Mode}
 use Rattle.rules.specs.declared.Mode.the-variants.{Ecb, Cbc, Cfb, Ofb, Ctr}
 use Rattle.rules.specs.declared.Direction.{Direction}
 use Rattle.rules.specs.declared.Direction.the-variants.{Encrypt, Decrypt}
-use Rattle.rules.specs.Rules.{next, cipher, outOf, nextOf, unitAt, unitsIn, registerAt, outAt, worked}
+use Rattle.rules.specs.Rules.{next, cipherUnit, outOf, nextOf, unitAt, unitsIn, registerAt, outAt, worked}
 use Rattle.rules.proofs.Undo.{worked-by}
 
 module _ (enc dec : List ℕ → List ℕ) {m m′ : ℕ} where
@@ -24,7 +24,7 @@ module _ (enc dec : List ℕ → List ℕ) {m m′ : ℕ} where
   module _ (mode : Mode) (free : mode ≡ Ctr → m ≡ m′) where
     pub nextOf-any : (dir : Direction) (r : List ℕ) (u : List Bool) → nextOf enc dec mode dir m r u ≡ nextOf enc dec mode dir m′ r u
     unfolding nextOf
-    nextOf-any Encrypt r u = next-any mode free r (cipher enc dec mode r u)
+    nextOf-any Encrypt r u = next-any mode free r (cipherUnit enc dec mode r u)
     nextOf-any Decrypt r u = next-any mode free r u
 
     pub register-any : (dir : Direction) (n : ℕ) (r : List ℕ) (x : List Bool) (t : ℕ) → registerAt enc dec mode dir n m r x t ≡ registerAt enc dec mode dir n m′ r x t

@@ -12,7 +12,7 @@ use Rattle.bits.proofs.Xors.{bits-xorBytes, xorBytes-block}
 use Rattle.rules.specs.declared.Mode.the-variants.{Ecb, Cbc, Cfb, Ofb, Ctr}
 use Rattle.rules.specs.declared.Direction.{Direction}
 use Rattle.rules.specs.declared.Direction.the-variants.{Encrypt, Decrypt}
-use Rattle.rules.specs.Rules.{msb, mask, next, cipher, plain, outOf, nextOf}
+use Rattle.rules.specs.Rules.{msb, mask, next, cipherUnit, plainUnit, outOf, nextOf}
 use Rattle.rules.specs.Standard.{ciph, ciphInv}
 
 -- A shifted register is as long as before.
@@ -32,17 +32,17 @@ module _ (enc dec : List ℕ → List ℕ) {r : List ℕ} (block : Block r) wher
   masked u = ap (λ (o : List Bool). xorBits u (msb (length u) o)) ciph-bits
 
   pub cfb-out : (dir : Direction) (u : List Bool) → outOf enc dec Cfb dir r u ≡ xorBits u (msb (length u) (ciph enc dec (bits r)))
-  unfolding outOf cipher plain
+  unfolding outOf cipherUnit plainUnit
   cfb-out Encrypt u = masked u
   cfb-out Decrypt u = masked u
 
   pub ofb-out : (dir : Direction) (u : List Bool) → outOf enc dec Ofb dir r u ≡ xorBits u (msb (length u) (ciph enc dec (bits r)))
-  unfolding outOf cipher plain next
+  unfolding outOf cipherUnit plainUnit next
   ofb-out Encrypt u = masked u
   ofb-out Decrypt u = masked u
 
   pub ctr-out : (dir : Direction) (u : List Bool) → outOf enc dec Ctr dir r u ≡ xorBits u (msb (length u) (ciph enc dec (bits r)))
-  unfolding outOf cipher plain
+  unfolding outOf cipherUnit plainUnit
   ctr-out Encrypt u = masked u
   ctr-out Decrypt u = masked u
 
@@ -60,21 +60,21 @@ module _ (enc dec : List ℕ → List ℕ) {r : List ℕ} (block : Block r) wher
 -- ---- sections 6.1 and 6.2: ECB, CBC
 
 module _ {enc dec : List ℕ → List ℕ} (ciphers : BlockCipher enc dec) {r : List ℕ} (block : Block r) where
-  pub cbc-cipher : (m : List Bool) → length m ≡ 128 → cipher enc dec Cbc r m ≡ ciph enc dec (xorBits m (bits r))
-  unfolding cipher ciph
+  pub cbc-cipher : (m : List Bool) → length m ≡ 128 → cipherUnit enc dec Cbc r m ≡ ciph enc dec (xorBits m (bits r))
+  unfolding cipherUnit ciph
   cbc-cipher m l =
       ap (λ (b : List ℕ). bits (enc b))
       (sym (block-pack-bits (xorBytes-block (pack-block m l) block))
       ∙ ap pack (bits-xorBytes (pack m) r (pack-block m l .bytes) (block .bytes) ∙ ap (λ (k : List Bool). xorBits k (bits r)) (block-bits-pack m l)))
 
-  pub cbc-plain : (c : List Bool) → length c ≡ 128 → plain enc dec Cbc r c ≡ xorBits (ciphInv enc dec c) (bits r)
-  unfolding plain ciphInv
+  pub cbc-plain : (c : List Bool) → length c ≡ 128 → plainUnit enc dec Cbc r c ≡ xorBits (ciphInv enc dec c) (bits r)
+  unfolding plainUnit ciphInv
   cbc-plain c l = bits-xorBytes (dec (pack c)) r (ciphers .dec-block (pack c) (pack-block c l) .bytes) (block .bytes)
 
-pub ecb-cipher : (enc dec : List ℕ → List ℕ) (r : List ℕ) (m : List Bool) → cipher enc dec Ecb r m ≡ ciph enc dec m
-unfolding cipher ciph
+pub ecb-cipher : (enc dec : List ℕ → List ℕ) (r : List ℕ) (m : List Bool) → cipherUnit enc dec Ecb r m ≡ ciph enc dec m
+unfolding cipherUnit ciph
 ecb-cipher enc dec r m = refl
 
-pub ecb-plain : (enc dec : List ℕ → List ℕ) (r : List ℕ) (c : List Bool) → plain enc dec Ecb r c ≡ ciphInv enc dec c
-unfolding plain ciphInv
+pub ecb-plain : (enc dec : List ℕ → List ℕ) (r : List ℕ) (c : List Bool) → plainUnit enc dec Ecb r c ≡ ciphInv enc dec c
+unfolding plainUnit ciphInv
 ecb-plain enc dec r c = refl

@@ -1,4 +1,5 @@
 -- Laws about the definitions of specs/, a file to a subject, and the proofs of the promises.
+pub mod NumberLaws
 pub mod Counts
 pub mod Joined
 pub mod Append
@@ -12,3 +13,4 @@ pub mod Counters
 pub mod Standard
 pub mod Texts
 pub mod Recovering
+pub mod LengthLaws

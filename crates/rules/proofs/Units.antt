@@ -16,7 +16,7 @@ use Rattle.rules.specs.declared.Mode.{Mode}
 use Rattle.rules.specs.declared.Mode.the-variants.{Ecb, Cbc, Cfb, Ofb, Ctr}
 use Rattle.rules.specs.declared.Direction.{Direction}
 use Rattle.rules.specs.declared.Direction.the-variants.{Encrypt, Decrypt}
-use Rattle.rules.specs.Rules.{msb, mask, next, cipher, plain, outOf, nextOf}
+use Rattle.rules.specs.Rules.{msb, mask, next, cipherUnit, plainUnit, outOf, nextOf}
 use Rattle.rules.specs.Promises.{other}
 use Rattle.rules.proofs.Formulas.{shiftIn-block}
 
@@ -56,24 +56,24 @@ module _ {enc dec : List ℕ → List ℕ} (ciphers : BlockCipher enc dec) {r : 
   unchained : (c : List Bool) → length c ≡ 128 → Block (xorBytes (dec (pack c)) r)
   unchained c l = xorBytes-block (ciphers .dec-block (pack c) (pack-block c l)) block
 
-  pub cipher-length : (mode : Mode) (u : List Bool) → UnitLength mode (length u) → length (cipher enc dec mode r u) ≡ length u
-  unfolding cipher next UnitLength
+  pub cipher-length : (mode : Mode) (u : List Bool) → UnitLength mode (length u) → length (cipherUnit enc dec mode r u) ≡ length u
+  unfolding cipherUnit next UnitLength
   cipher-length Ecb u l = bits-block (ciphers .enc-block (pack u) (pack-block u l)) ∙ sym l
   cipher-length Cbc u l = bits-block (ciphers .enc-block (xorBytes (pack u) r) (chained u l)) ∙ sym l
   cipher-length Cfb u l = mask-length u l (ciphers .enc-block r block)
   cipher-length Ofb u l = mask-length u l (ciphers .enc-block r block)
   cipher-length Ctr u l = mask-length u l (ciphers .enc-block r block)
 
-  pub plain-length : (mode : Mode) (c : List Bool) → UnitLength mode (length c) → length (plain enc dec mode r c) ≡ length c
-  unfolding plain next UnitLength
+  pub plain-length : (mode : Mode) (c : List Bool) → UnitLength mode (length c) → length (plainUnit enc dec mode r c) ≡ length c
+  unfolding plainUnit next UnitLength
   plain-length Ecb c l = bits-block (ciphers .dec-block (pack c) (pack-block c l)) ∙ sym l
   plain-length Cbc c l = bits-block (unchained c l) ∙ sym l
   plain-length Cfb c l = mask-length c l (ciphers .enc-block r block)
   plain-length Ofb c l = mask-length c l (ciphers .enc-block r block)
   plain-length Ctr c l = mask-length c l (ciphers .enc-block r block)
 
-  pub plain-cipher : (mode : Mode) (u : List Bool) → UnitLength mode (length u) → plain enc dec mode r (cipher enc dec mode r u) ≡ u
-  unfolding cipher plain next UnitLength
+  pub plain-cipher : (mode : Mode) (u : List Bool) → UnitLength mode (length u) → plainUnit enc dec mode r (cipherUnit enc dec mode r u) ≡ u
+  unfolding cipherUnit plainUnit next UnitLength
   plain-cipher Ecb u l =
       let b = pack-block u l in
       rw (block-pack-bits (ciphers .enc-block (pack u) b), ciphers .dec-enc (pack u) b) (block-bits-pack u l)
@@ -85,8 +85,8 @@ module _ {enc dec : List ℕ → List ℕ} (ciphers : BlockCipher enc dec) {r : 
   plain-cipher Ofb u l = mask-undo u l (ciphers .enc-block r block)
   plain-cipher Ctr u l = mask-undo u l (ciphers .enc-block r block)
 
-  pub cipher-plain : (mode : Mode) (c : List Bool) → UnitLength mode (length c) → cipher enc dec mode r (plain enc dec mode r c) ≡ c
-  unfolding cipher plain next UnitLength
+  pub cipher-plain : (mode : Mode) (c : List Bool) → UnitLength mode (length c) → cipherUnit enc dec mode r (plainUnit enc dec mode r c) ≡ c
+  unfolding cipherUnit plainUnit next UnitLength
   cipher-plain Ecb c l =
       let b = pack-block c l in
       rw (block-pack-bits (ciphers .dec-block (pack c) b), ciphers .enc-dec (pack c) b) (block-bits-pack c l)
@@ -126,5 +126,5 @@ module _ {enc dec : List ℕ → List ℕ} (ciphers : BlockCipher enc dec) {r : 
 
   pub register-block : (mode : Mode) (dir : Direction) (m : ℕ) (u : List Bool) → UnitLength mode (length u) → Block (nextOf enc dec mode dir m r u)
   unfolding nextOf
-  register-block mode Encrypt m u l = next-block mode m (cipher enc dec mode r u) (rw (cipher-length mode u l) l)
+  register-block mode Encrypt m u l = next-block mode m (cipherUnit enc dec mode r u) (rw (cipher-length mode u l) l)
   register-block mode Decrypt m u l = next-block mode m u l

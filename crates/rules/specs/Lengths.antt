@@ -1,5 +1,6 @@
 -- Which unit lengths, counter lengths and message lengths a mode takes (questions 3, 14 and 7).
-use Prim.Native.Nat.{ℕ, _%_}
+use Prim.Native.Nat.{ℕ, _%_, _≤_}
+use mathlib.Core.Path.{_≡_}
 use mathlib.Core.Bool.{Bool, true, _&&_}
 use lib.Dec.{leb, eqb}
 use Rattle.rules.specs.declared.Mode.{Mode}
@@ -28,3 +29,10 @@ wholeUnits Cbc n bits = eqb (bits % n) 0
 wholeUnits Cfb n bits = eqb (bits % n) 0
 wholeUnits Ofb n bits = true
 wholeUnits Ctr n bits = true
+
+-- ---- in plain numbers
+
+-- From 1 to 128 in the mode `own`, and 128 elsewhere: n in CFB (question 3), m in CTR (question 14).
+pub record LengthIn (own mode : Mode) (bits : ℕ) : Type 0 where
+  pub in-own : mode ≡ own → (1 ≤ bits) × (bits ≤ 128)
+  pub elsewhere : (mode ≡ own → ⊥) → bits ≡ 128

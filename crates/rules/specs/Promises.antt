@@ -3,6 +3,7 @@ use Prim.Native.Nat.{ℕ, suc, _+_, _*_, _≤_, _<_}
 use mathlib.Core.Path.{_≡_}
 use mathlib.Core.Logic.{_↔_}
 use mathlib.Core.Bool.{Bool, true, false}
+use mathlib.Core.Option.{none, some}
 use mathlib.Core.List.{List}
 use lib.ListN.{length, getD}
 use Rattle.bits.specs.Blocks.{Block, BlockCipher}
@@ -13,7 +14,7 @@ use Rattle.rules.specs.declared.Direction.the-variants.{Encrypt, Decrypt
 use Rattle.rules.specs.Lengths.{unitLengthOk, wholeUnits}
 use Rattle.rules.specs.Rules.{start, unitAt, registerAt, worked, unitsIn}
 use Rattle.rules.specs.Standard.{standard}
-use Rattle.rules.specs.Recovery.{recovers, recoveryUnits}
+use Rattle.rules.specs.Recovery.{recoveryUnits}
 
 -- Demand 2, for a text x that the mode takes. The other direction, from the same IV, gives the text back.
 unfoldable pub other : Direction → Direction
@@ -63,7 +64,7 @@ pub record OneBlockDamaged (x y p q : List Bool) (j : ℕ) : Type 0 where
 pub record OneSegmentDamaged (n : ℕ) (x y p q : List Bool) (j : ℕ) : Type 0 where
   pub here : (b : ℕ) → Differ (unitAt n p j) (unitAt n q j) b ↔ Differ (unitAt n x j) (unitAt n y j) b
   pub before : (t : ℕ) → t < j → unitAt n p t ≡ unitAt n q t
-  pub behind : (t : ℕ) → suc j + recoveryUnits Cfb n ≤ t → unitAt n p t ≡ unitAt n q t
+  pub behind : (t : ℕ) → suc j + unitsIn n 128 ≤ t → unitAt n p t ≡ unitAt n q t
 
 -- Demand 3 for two ciphertexts x and y that were decrypted from the IVs v and w, with counters of m and m′ bits, whatever came
 -- before a common run.
@@ -76,14 +77,14 @@ module _ (enc dec : List ℕ → List ℕ) (mode : Mode) (n m m′ : ℕ) (v w :
 
   pub record RecoveryAndDamage : Type 0 where
     -- recovery after loss: plaintext units and registers
-    pub run-plain : recovers mode ≡ true → (i j k : ℕ) → CommonRun n x y i j k → (t : ℕ) → recoveryUnits mode n ≤ t → t < k → unitAt n plainX (i + t) ≡ unitAt n plainY (j + t)
-    pub run-registers : recovers mode ≡ true → (i j k : ℕ) → CommonRun n x y i j k → (t : ℕ) → recoveryUnits mode n ≤ t → t ≤ k → registerAt enc dec mode Decrypt n m (start mode v) x (i + t) ≡ registerAt enc dec mode Decrypt n m′ (start mode w) y (j + t)
+    pub run-plain : (needed : ℕ) → recoveryUnits mode n ≡ some needed → (i j k : ℕ) → CommonRun n x y i j k → (t : ℕ) → needed ≤ t → t < k → unitAt n plainX (i + t) ≡ unitAt n plainY (j + t)
+    pub run-registers : (needed : ℕ) → recoveryUnits mode n ≡ some needed → (i j k : ℕ) → CommonRun n x y i j k → (t : ℕ) → needed ≤ t → t ≤ k → registerAt enc dec mode Decrypt n m (start mode v) x (i + t) ≡ registerAt enc dec mode Decrypt n m′ (start mode w) y (j + t)
     -- reach of damage in ECB, CBC and CFB
     pub one-block-ecb : mode ≡ Ecb → (j : ℕ) → OneBlockChanged x y j → OnlyBlockDamaged plainX plainY j
     pub one-block : mode ≡ Cbc → v ≡ w → (j : ℕ) → OneBlockChanged x y j → OneBlockDamaged x y plainX plainY j
     pub one-segment : mode ≡ Cfb → v ≡ w → (j : ℕ) → OneUnitChanged n x y j → OneSegmentDamaged n x y plainX plainY j
     -- and in OFB and CTR; in CTR where m is the same
-    pub same-bits : recovers mode ≡ false → v ≡ w → (mode ≡ Ctr → m ≡ m′) → length x ≡ length y → (b : ℕ) → Differ plainX plainY b ↔ Differ x y b
+    pub same-bits : recoveryUnits mode n ≡ none → v ≡ w → (mode ≡ Ctr → m ≡ m′) → length x ≡ length y → (b : ℕ) → Differ plainX plainY b ↔ Differ x y b
 
 -- What is assumed: two block functions that undo each other, a start register of 16 bytes, a unit length and texts that the mode takes.
 unfoldable pub TextsHold : Type 0

@@ -38,28 +38,28 @@ module _ (enc dec : List ℕ → List ℕ) where
   next Ctr m r c = increment m r
 
   -- C from M. OFB moves R first.
-  unfoldable pub cipher : Mode → List ℕ → List Bool → List Bool
-  cipher Ecb r u = bits (enc (pack u))
-  cipher Cbc r u = bits (enc (xorBytes (pack u) r))
-  cipher Cfb r u = mask u (enc r)
-  cipher Ofb r u = mask u (next Ofb 128 r u)
-  cipher Ctr r u = mask u (enc r)
+  unfoldable pub cipherUnit : Mode → List ℕ → List Bool → List Bool
+  cipherUnit Ecb r u = bits (enc (pack u))
+  cipherUnit Cbc r u = bits (enc (xorBytes (pack u) r))
+  cipherUnit Cfb r u = mask u (enc r)
+  cipherUnit Ofb r u = mask u (next Ofb 128 r u)
+  cipherUnit Ctr r u = mask u (enc r)
 
   -- M from C.
-  unfoldable pub plain : Mode → List ℕ → List Bool → List Bool
-  plain Ecb r c = bits (dec (pack c))
-  plain Cbc r c = bits (xorBytes (dec (pack c)) r)
-  plain Cfb r c = mask c (enc r)
-  plain Ofb r c = mask c (next Ofb 128 r c)
-  plain Ctr r c = mask c (enc r)
+  unfoldable pub plainUnit : Mode → List ℕ → List Bool → List Bool
+  plainUnit Ecb r c = bits (dec (pack c))
+  plainUnit Cbc r c = bits (xorBytes (dec (pack c)) r)
+  plainUnit Cfb r c = mask c (enc r)
+  plainUnit Ofb r c = mask c (next Ofb 128 r c)
+  plainUnit Ctr r c = mask c (enc r)
 
   -- A direction's work on a unit, and the register after it.
   unfoldable pub outOf : Mode → Direction → List ℕ → List Bool → List Bool
-  outOf mode Encrypt r u = cipher mode r u
-  outOf mode Decrypt r u = plain mode r u
+  outOf mode Encrypt r u = cipherUnit mode r u
+  outOf mode Decrypt r u = plainUnit mode r u
 
   unfoldable pub nextOf : Mode → Direction → ℕ → List ℕ → List Bool → List ℕ
-  nextOf mode Encrypt m r u = next mode m r (cipher mode r u)
+  nextOf mode Encrypt m r u = next mode m r (cipherUnit mode r u)
   nextOf mode Decrypt m r u = next mode m r u
 
 -- ---- whole texts, unit by unit

@@ -1,4 +1,11 @@
 // The modes' vocabulary. What each mode does to a unit stands in specs/, over any two block functions.
+mod numbers;
+
+pub use numbers::MODES;
+pub use numbers::decrypts;
+pub use numbers::direction_of;
+pub use numbers::mode_number;
+pub use numbers::mode_of;
 ghost use mathlib.Core.Path.{_≡_};
 ghost use Rattle.rules.specs.Lengths.{unitLengthOk, counterLengthOk};
 

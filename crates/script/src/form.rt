@@ -80,20 +80,11 @@ impl Words {
     }
 
     pub fn mode(self, k: usize) -> Mode {
-        match self.number(k) {
-            0 => Mode::Ecb,
-            1 => Mode::Cbc,
-            2 => Mode::Cfb,
-            3 => Mode::Ofb,
-            _ => Mode::Ctr,
-        }
+        rules::mode_of(self.number(k))
     }
 
     pub fn direction(self, k: usize) -> Direction {
-        match self.number(k) {
-            0 => Direction::Encrypt,
-            _ => Direction::Decrypt,
-        }
+        rules::direction_of(self.number(k) == 1)
     }
 
     fn start(self, k: usize) -> usize {

@@ -18,10 +18,10 @@ pub fn bytes(word: &[u8], space: &mut [u8]) -> Number {
     if space.len() < count {
         return Number::Bad;
     }
-    if !grammar::all_digits(word) {
+    if !digits::all_digits(word) {
         return Number::Bad;
     }
-    grammar::decode(word, space);
+    digits::decode(word, space);
     Number::Value(count)
 }
 
@@ -35,9 +35,9 @@ pub fn one_byte(word: &[u8]) -> Number {
     if word.len() != 2 {
         return Number::Bad;
     }
-    if !grammar::all_digits(word) {
+    if !digits::all_digits(word) {
         return Number::Bad;
     }
-    grammar::decode(word, &mut value);
+    digits::decode(word, &mut value);
     Number::Value(wide(value[0]))
 }

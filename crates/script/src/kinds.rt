@@ -12,12 +12,10 @@ use crate::hex;
 use crate::hex::one_byte;
 use crate::numbers::Number;
 use crate::numbers::decimal;
-use grammar::DirectionWord;
-use grammar::ModeWord;
-use grammar::direction_word;
-use grammar::mode_word;
-use rules::Direction;
-use rules::Mode;
+use header::DirectionWord;
+use header::ModeWord;
+use header::direction_word;
+use header::mode_word;
 
 // The bytes of a text and of an output: 64 more than those of the largest feed, so that a list can go past it.
 pub const MAX_BYTES: usize = 65600;
@@ -29,23 +27,14 @@ fn mode_number(word: &[u8]) -> Number {
     let ModeWord::Named(mode) = mode_word(word) else {
         return Number::Bad;
     };
-    match mode {
-        Mode::Ecb => Number::Value(0),
-        Mode::Cbc => Number::Value(1),
-        Mode::Cfb => Number::Value(2),
-        Mode::Ofb => Number::Value(3),
-        Mode::Ctr => Number::Value(4),
-    }
+    Number::Value(rules::mode_number(mode))
 }
 
 fn direction_number(word: &[u8]) -> Number {
     let DirectionWord::Named(direction) = direction_word(word) else {
         return Number::Bad;
     };
-    match direction {
-        Direction::Encrypt => Number::Value(0),
-        Direction::Decrypt => Number::Value(1),
-    }
+    Number::Value(rules::decrypts(direction) as usize)
 }
 
 fn within(number: Number, least: usize, most: usize) -> Number {

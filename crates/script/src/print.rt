@@ -44,7 +44,7 @@ pub fn number(text: &mut [u8; 65536], end: usize, n: u64, after: u8) -> usize {
 
 fn put_hex(text: &mut [u8; 65536], end: usize, b: u8) -> usize {
     let mut pair = [0u8; 2];
-    grammar::encode(&[b], &mut pair, 0);
+    digits::encode(&[b], &mut pair, 0);
     let at = put(text, end, pair[0]);
     put(text, at, pair[1])
 }

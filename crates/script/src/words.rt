@@ -16,7 +16,7 @@ pub fn spaces(line: &[u8]) -> usize {
     count
 }
 
-// The place behind the k-th space, or the line's end where it has fewer.
+// The index behind the k-th space, or the line's end where it has fewer.
 fn behind_spaces(line: &[u8], k: usize) -> usize
     ensures { λ r. ⌜ r ≤ length (now (line .entry)) ⌝ }
 {
@@ -34,7 +34,7 @@ fn behind_spaces(line: &[u8], k: usize) -> usize
     i
 }
 
-// The place of the first space, or the end where there is none.
+// The index of the first space, or the end where there is none.
 fn up_to_space(rest: &[u8]) -> usize {
     let mut i = 0;
     while i < rest.len() {

@@ -1,59 +1,44 @@
--- Which calls are accepted, in plain numbers: `StealAccepts`. Assumes nothing.
-use Prim.Native.Nat.{ℕ, _-_, _*_, _%_}
-use mathlib.Core.Path.{_≡_, sym, _∙_}
-use mathlib.Core.Bool.{true}
-use mathlib.Core.List.{List}
+-- Which calls are accepted, in plain numbers: at 0, and only there, every question said 'yes'. Assumes nothing.
+use Prim.Native.Nat.{_%_}
+use mathlib.Core.Path.{sym, _∙_}
+use mathlib.Core.Bool.{and-eq-true-iff}
 use native.Mathlib.Omega.{arith}
-use borrow.Author.Tests.{eqb-true, eq-eqb, le-leb, lt-ltb}
+use borrow.Author.Tests.{eqb-true, eq-eqb, ltb-true, lt-ltb}
+use lib.Dec.{eqb, ltb}
 use lib.ListN.{length}
 use Rattle.bits.specs.Texts.{bytesFor}
-use Rattle.aes.specs.Calls.{keyNumber}
-use Rattle.aes.proofs.CallLaws.{calls-answer}
-use Rattle.rules.specs.declared.Mode.the-variants.{Cbc}
-use Rattle.questions.specs.Questions.{ask, maxBits, ivOk, bitsOk, roomOk}
-use Rattle.modes.proofs.AnswerLaws.{key-yes}
+use Rattle.questions.specs.Questions.{maxBits, ivOk}
+use Rattle.questions.specs.Promises.{AcceptedExactly}
+use Rattle.questions.proofs.QuestionLaws.{accepted-exactly}
+use Rattle.questions.proofs.SentenceLaws.{key-exactly, bits-exactly, room-exactly}
 use Rattle.stealing.specs.Calls.{messageOk, messageQuestions, stealQuestions, stealNumber}
-use Rattle.stealing.specs.Promises.{Acceptable, StealAccepts}
-use Rattle.stealing.proofs.NumberLaws.{steal-taken}
-
-module _ (key iv input : List ℕ) (count : ℕ) (out : List ℕ) (place : ℕ) where
-  granted : stealNumber key iv (length input) count (length out) place ≡ 0 → Acceptable key iv input count out place
-  unfolding keyNumber ivOk
-  granted zero =
-      let taken = steal-taken key iv (length input) count (length out) place zero in
-      let m = taken .message in
-      record {
-        key-length = calls-answer .accepted key .0 (rw (taken .key-yes));
-        iv-length = eqb-true (length iv) 16 (taken .iv-yes);
-        whole-bytes = m .whole-bytes;
-        more-than-16 = m .more-than-16;
-        at-most = m .small;
-        there = m .there;
-        room = omega arith;
-      }
-
-  module _ (h : Acceptable key iv input count out place) where
-    iv-good : ivOk Cbc iv ≡ true
-    unfolding ivOk
-    iv-good = eq-eqb (length iv) 16 (h .iv-length)
-
-    bits-good : bitsOk maxBits (length input) count ≡ true
-    unfolding bitsOk
-    bits-good = rw (le-leb count (8 * length input) (h .there), le-leb count maxBits (h .at-most))
-
-    message-good : messageOk count ≡ true
-    unfolding messageOk
-    message-good = rw (eq-eqb (count % 8) 0 (h .whole-bytes), lt-ltb 128 count (h .more-than-16))
-
-    room-good : roomOk (length out) place (bytesFor count) ≡ true
-    unfolding roomOk
-    room-good = rw (le-leb place (length out) (omega (arith, h .room)), le-leb (bytesFor count) (length out - place) (omega (arith, h .room)))
-
-    accepted : stealNumber key iv (length input) count (length out) place ≡ 0
-    unfolding stealNumber stealQuestions messageQuestions ask
-    accepted = rw (key-yes key (calls-answer .accepted key .1 (h .key-length)), iv-good, bits-good, message-good, room-good)
+use Rattle.stealing.specs.Promises.{StealAccepts}
 
 pub steal-accepts : StealAccepts
-unfolding StealAccepts
+unfolding StealAccepts AcceptedExactly stealNumber stealQuestions messageQuestions messageOk ivOk
 steal-accepts dir key iv input count out place number after stolen =
-    (λ zero. granted key iv input count out place (sym (stolen .answer) ∙ zero), λ h. stolen .answer ∙ accepted key iv input count out place h)
+    let exactly = accepted-exactly (stealQuestions key iv (length input) count (length out) place) (omega arith) in
+    let bits = bits-exactly maxBits (length input) count in
+    let message = and-eq-true-iff (eqb (count % 8) 0) (ltb 128 count) in
+    let room = room-exactly (length out) place (bytesFor count) in (
+      λ zero.
+          let (q1, (q2, (q6, (q13, (q8, end))))) = exactly .0 (sym (stolen .answer) ∙ zero) in
+          let (there, small) = bits .0 q6 in
+          let (whole, long) = message .0 q13 in
+          record {
+            key-length = key-exactly key .0 q1;
+            iv-length = eqb-true (length iv) 16 q2;
+            whole-bytes = eqb-true (count % 8) 0 whole;
+            more-than-16 = omega (arith, ltb-true 128 count long);
+            at-most = omega (arith, small);
+            there = there;
+            room = omega (arith, room .0 q8);
+          },
+      λ h.
+          let q1 = key-exactly key .1 (h .key-length) in
+          let q2 = eq-eqb (length iv) 16 (h .iv-length) in
+          let q6 = bits .1 (h .there, omega (arith, h .at-most)) in
+          let q13 = message .1 (eq-eqb (count % 8) 0 (h .whole-bytes), lt-ltb 128 count (omega (arith, h .more-than-16))) in
+          let q8 = room .1 (omega (arith, h .room)) in
+          stolen .answer ∙ exactly .1 (q1, (q2, (q6, (q13, (q8, tt))))),
+    )

@@ -9,7 +9,7 @@ use lib.ListN.{length}
 use Rattle.aes.specs.Calls.{encrypted, decrypted}
 use Rattle.rules.specs.declared.Direction.{Direction}
 use Rattle.modes.specs.Sessions.{fedText, written}
-use Rattle.stealing.specs.Stealing.{stolenText}
+use Rattle.stolen.specs.Stealing.{stolenText}
 use Rattle.stealing.specs.Calls.{stealNumber, StolenBy}
 
 module _ (dir : Direction) (key iv input : List ℕ) (count : ℕ) (out : List ℕ) (place : ℕ) where

@@ -17,9 +17,9 @@ use Rattle.rules.specs.declared.Mode.the-variants.{Cbc}
 use Rattle.rules.specs.declared.Direction.{Direction}
 use Rattle.questions.specs.Questions.{ivOk}
 use Rattle.modes.specs.Sessions.{fedText}
-use Rattle.stealing.specs.Stealing.{stolenText}
-use Rattle.stealing.specs.Promises.{StealingUndone}
-use Rattle.stealing.proofs.TextLaws.UndoLaws.{stealing-undone}
+use Rattle.stolen.specs.Stealing.{stolenText}
+use Rattle.stolen.specs.Promises.{StealingUndone}
+use Rattle.stolen.proofs.UndoLaws.{stealing-undone}
 
 -- What an accepted key and IV give.
 pub record Keyed (key iv : List ℕ) : Type 0 where

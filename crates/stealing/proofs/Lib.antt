@@ -1,6 +1,4 @@
 -- Laws about the definitions of specs/, a file to a subject, and the proofs of the promises.
-pub mod TextLaws
-pub mod EndingLaws
 pub mod KeyLaws
 pub mod NumberLaws
 pub mod MessageLaws

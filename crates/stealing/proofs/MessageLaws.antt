@@ -21,10 +21,10 @@ use Rattle.modes.specs.Sessions.{Arrays, feedNumberWithin, feedNumber, fedText,
 use Rattle.modes.proofs.SessionLaws.{text-length, ciphers}
 use Rattle.modes.proofs.FeedLaws.{accepted-count, accepted-whole, accepted-ready, accepted-session, accepted-output, accepted-named}
 use Rattle.modes.proofs.WorkLaws.{drop-take, put-next}
-use Rattle.stealing.specs.declared.ending.Ending.{Ending}
-use Rattle.stealing.specs.Stealing.{fullBlocks, stolenText}
-use Rattle.stealing.specs.Endings.{Begins}
-use Rattle.stealing.proofs.TextLaws.RestLaws.{fed-and-ended}
+use Rattle.ending.specs.declared.Ending.{Ending}
+use Rattle.stolen.specs.Stealing.{fullBlocks, stolenText}
+use Rattle.stealing.specs.inner.Messages.{Begins}
+use Rattle.stolen.proofs.RestLaws.{fed-and-ended}
 use Rattle.stealing.proofs.KeyLaws.{length-fed}
 use Rattle.stealing.proofs.NumberLaws.{frontBits, endBits, front-number}
 

@@ -13,8 +13,9 @@ use Rattle.aes.specs.Calls.{keyOk}
 use Rattle.rules.specs.declared.Mode.the-variants.{Cbc}
 use Rattle.rules.specs.Rules.{unitsIn}
 use Rattle.rules.specs.Lengths.{unitLengthOk, counterLengthOk, wholeUnits}
-use Rattle.questions.proofs.QuestionLaws.{opening-taken, counters-enough, first-yes, both-true, bits-small, bits-there, room-inside, room-there}
+use Rattle.questions.proofs.QuestionLaws.{opening-taken, counters-enough, first-yes, accepted-exactly, both-true, bits-small, bits-there, room-inside, room-there}
 use Rattle.questions.specs.Questions.{ask, maxBits, maxUnits, sessionOk, bitsOk, roomOk, unitsOk, feedQuestions, ivOk, openQuestions}
+use Rattle.questions.specs.Promises.{AcceptedExactly}
 use Rattle.modes.specs.Sessions.{openNumber}
 use Rattle.stealing.specs.Calls.{messageOk, messageQuestions, stealQuestions, stealNumber}
 
@@ -46,11 +47,9 @@ pub record MessageTaken (bytes count size place : ℕ) : Type 0 where
   pub room : bytesFor count ≤ size - place
 
 pub message-taken : (bytes count size place : ℕ) → ask (messageQuestions bytes count size place) ≡ 0 → MessageTaken bytes count size place
-unfolding messageQuestions messageOk
-message-taken bytes count size place e6 =
-    let (q6, e13) = first-yes _ _ (omega arith) e6 in
-    let (q13, e8) = first-yes _ _ (omega arith) e13 in
-    let (q8, e0) = first-yes _ _ (omega arith) e8 in
+unfolding AcceptedExactly messageQuestions messageOk
+message-taken bytes count size place e =
+    let (q6, (q13, (q8, end))) = accepted-exactly (messageQuestions bytes count size place) (omega arith) .0 e in
     let (whole, long) = both-true (eqb (count % 8) 0) (ltb 128 count) q13 in
     record {
       there = bits-there _ _ _ q6;

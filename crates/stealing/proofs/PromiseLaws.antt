@@ -15,11 +15,12 @@ use Rattle.rules.specs.declared.Direction.the-variants.{Decrypt}
 use Rattle.rules.specs.Promises.{other}
 use Rattle.modes.specs.Sessions.{fedText, written}
 use Rattle.modes.proofs.WrittenLaws.{written-before, written-behind, written-text, written-size}
-use Rattle.stealing.specs.Stealing.{stolenText}
+use Rattle.stolen.specs.Stealing.{stolenText}
 use Rattle.stealing.specs.Calls.{stealNumber, StolenBy}
-use Rattle.stealing.specs.Promises.{StealingUndone, StealingRecovers, StealRefusedUnchanged, ExactlyTheMessage, StealAcceptedExact, Acceptable, StealAccepts, MessageUndone, Message, sent, received, MessagesRecover}
-use Rattle.stealing.proofs.TextLaws.UndoLaws.{stealing-undone}
-use Rattle.stealing.proofs.TextLaws.RecoveryLaws.{stealing-recovers}
+use Rattle.stolen.specs.Promises.{StealingUndone, StealingRecovers}
+use Rattle.stealing.specs.Promises.{StealRefusedUnchanged, ExactlyTheMessage, StealAcceptedExact, Acceptable, StealAccepts, MessageUndone, Message, sent, received, MessagesRecover}
+use Rattle.stolen.proofs.UndoLaws.{stealing-undone}
+use Rattle.stolen.proofs.RecoveryLaws.{stealing-recovers}
 use Rattle.stealing.proofs.KeyLaws.{Keyed, keyed, fed-long, stolen-length}
 use Rattle.stealing.proofs.NumberLaws.{StealTaken, steal-taken}
 use Rattle.stealing.proofs.AcceptLaws.{steal-accepts}

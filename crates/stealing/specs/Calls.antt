@@ -6,26 +6,26 @@ use mathlib.Core.List.{List, [], _∷_}
 use lib.Dec.{eqb, ltb}
 use lib.ListN.{length}
 use Rattle.bits.specs.Texts.{bytesFor}
-use Rattle.aes.specs.Calls.{keyOk, encrypted, decrypted}
+use Rattle.aes.specs.Calls.{encrypted, decrypted}
 use Rattle.rules.specs.declared.Mode.the-variants.{Cbc}
 use Rattle.rules.specs.declared.Direction.{Direction}
-use Rattle.questions.specs.Questions.{Question, ask, maxBits, ivOk, bitsOk, roomOk}
+use Rattle.questions.specs.Questions.{Question, ask, maxBits, keyLength, ivLength, bitsThere, room}
 use Rattle.modes.specs.Sessions.{fedText, written}
-use Rattle.stealing.specs.Stealing.{stolenText}
+use Rattle.stolen.specs.Stealing.{stolenText}
 
 -- Question 13: is the message whole bytes, and longer than 16 of them?
 unfoldable pub messageOk : ℕ → Bool
 messageOk count = eqb (count % 8) 0 && ltb 128 count
 
--- 1, 2, 6, 13 and 8, in this order. Of the message: input bytes, bits, output bytes, place.
+abbrev pub messageLength : ℕ → Question
+messageLength count = record { yes = messageOk count; number = 13 }
+
+-- Of the message: input bytes, bits, output bytes, place.
 unfoldable pub messageQuestions : ℕ → ℕ → ℕ → ℕ → List Question
-messageQuestions bytes count size place =
-    record { yes = bitsOk maxBits bytes count; number = 6 } ∷ record { yes = messageOk count; number = 13 }
-    ∷ record { yes = roomOk size place (bytesFor count); number = 8 } ∷ []
+messageQuestions bytes count size place = bitsThere maxBits bytes count ∷ messageLength count ∷ room size place (bytesFor count) ∷ []
 
 unfoldable pub stealQuestions : List ℕ → List ℕ → ℕ → ℕ → ℕ → ℕ → List Question
-stealQuestions key iv bytes count size place =
-    record { yes = keyOk key; number = 1 } ∷ record { yes = ivOk Cbc iv; number = 2 } ∷ messageQuestions bytes count size place
+stealQuestions key iv bytes count size place = keyLength key ∷ ivLength Cbc iv ∷ messageQuestions bytes count size place
 
 unfoldable pub stealNumber : List ℕ → List ℕ → ℕ → ℕ → ℕ → ℕ → ℕ
 stealNumber key iv bytes count size place = ask (stealQuestions key iv bytes count size place)

@@ -1,5 +1,4 @@
--- Ciphertext stealing for CBC: the text, what the calls answer, and what is promised of both.
-pub mod Stealing
-pub mod Endings
+-- Ciphertext stealing for CBC: what the calls answer, and what is promised of them.
+pub mod inner
 pub mod Calls
 pub mod Promises

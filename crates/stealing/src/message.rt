@@ -1,6 +1,5 @@
 // Whole messages, in either direction.
-use crate::ending;
-use crate::ending::Ending;
+use ending::Ending;
 use modes::Session;
 use questions::BLOCK_BITS;
 use rules::Direction;
@@ -13,8 +12,8 @@ ghost use Rattle.bits.specs.Texts.{bits, bytesFor, pack, putBits};
 ghost use Rattle.cipher.specs.Cipher.{Enc, Dec};
 ghost use Rattle.questions.specs.Questions.{ask, maxBits};
 ghost use Rattle.modes.specs.Sessions.{fedText};
-ghost use Rattle.stealing.specs.Stealing.{stolenText};
-ghost use Rattle.stealing.specs.Endings.{Begins};
+ghost use Rattle.stolen.specs.Stealing.{stolenText};
+ghost use Rattle.stealing.specs.inner.Messages.{Begins};
 ghost use Rattle.stealing.specs.Calls.{messageOk, messageQuestions, StolenBy};
 
 // Question 13.

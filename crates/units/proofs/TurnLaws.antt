@@ -16,18 +16,18 @@ use Rattle.bits.specs.Counter.{increment}
 use Rattle.bits.proofs.Texts.{bits-block, block-pack-bits, pack-block}
 use Rattle.bits.proofs.Xors.{bits-xorBytes, take-xorBits, xorBytes-block}
 use Rattle.cipher.specs.Cipher.{Enc, Dec}
-use Rattle.prepared.specs.Rounds.{blockBy}
-use Rattle.prepared.specs.Prepared.{PreparedFor}
+use Rattle.prepared.specs.declared.counted.Ran.{Ran}
+use Rattle.prepared.specs.Prepared.{preparedBlock, PreparedFor, Counted}
 use Rattle.rules.specs.declared.Mode.{Mode}
 use Rattle.rules.specs.declared.Mode.the-variants.{Ecb, Cbc, Cfb, Ofb, Ctr}
 use Rattle.rules.specs.declared.Direction.the-variants.{Encrypt, Decrypt}
 use Rattle.rules.specs.declared.Direction.{Direction}
-use Rattle.rules.specs.Rules.{msb, mask, next, cipher, plain, outOf, nextOf}
+use Rattle.rules.specs.Numbers.{isDecrypt}
+use Rattle.rules.specs.Rules.{msb, mask, next, cipherUnit, plainUnit, outOf, nextOf}
 use Rattle.rules.proofs.Units.{UnitLength}
 use Rattle.rules.proofs.AnyCounter.{nextOf-any}
-use Rattle.units.specs.declared.unit.Ran.{Ran}
 use Rattle.units.specs.declared.unit.Step.{Step}
-use Rattle.units.specs.Turns.{decrypting, runsDec, Runs, Counted, outBlock, Turned, unitSizeOk}
+use Rattle.units.specs.inner.Turns.{runsDec, Runs, outBlock, Turned, unitSizeOk}
 
 -- ---- a whole block
 
@@ -70,20 +70,20 @@ module _ (f : List ℕ → List ℕ) {register unit : List ℕ} (hr : Block regi
   by-run run all text next = record { out-bits = text; out-block = all; register-after = next; one-run = run .one-run }
 
   pub ecb-turned : (dir : Direction) → Counted f unit ran → Turned f Ecb dir 128 register unit 128 (stepBy ran (ran .block) register)
-  unfolding outBlock outOf nextOf cipher plain next
+  unfolding outBlock outOf nextOf cipherUnit plainUnit next
   ecb-turned Encrypt run = by-run run (run .made) (whole hb ∙ ap bits (run .made ∙ ap f (sym (packed hu)))) refl
   ecb-turned Decrypt run = by-run run (run .made) (whole hb ∙ ap bits (run .made ∙ ap f (sym (packed hu)))) refl
 
   pub cbc-encrypted : {added : List ℕ} → added ≡ xorBytes unit register → Counted f added ran
       → Turned f Cbc Encrypt 128 register unit 128 (stepBy ran (ran .block) (ran .block))
-  unfolding outBlock outOf nextOf cipher next
+  unfolding outBlock outOf nextOf cipherUnit next
   cbc-encrypted e run =
       let same : ran .block ≡ f (xorBytes (pack (take 128 (bits unit))) register) = run .made ∙ ap f (e ∙ ap (λ u. xorBytes u register) (sym (packed hu))) in
       by-run run (run .made ∙ ap f e) (whole hb ∙ ap bits same) (sym (block-pack-bits hb) ∙ ap (λ b. pack (bits b)) same)
 
   pub cbc-decrypted : {out : List ℕ} → Block out → Counted f unit ran → out ≡ xorBytes (ran .block) register
       → Turned f Cbc Decrypt 128 register unit 128 (stepBy ran out unit)
-  unfolding outBlock outOf nextOf plain next
+  unfolding outBlock outOf nextOf plainUnit next
   cbc-decrypted ho run e = by-run run (e ∙ ap (λ b. xorBytes b register) (run .made)) (whole ho ∙ ap bits (e ∙ ap (λ b. xorBytes b register) (run .made ∙ ap f (sym (packed hu))))) (sym (packed hu))
 
   -- in CFB, OFB and CTR the first bits of the register's block are added
@@ -96,21 +96,21 @@ module _ (f : List ℕ → List ℕ) {register unit : List ℕ} (hr : Block regi
 
     pub cfb-encrypted : {after : List ℕ} → Block out → after ≡ packTo 16 (drop size (bits register) ++ take size (bits out))
         → Turned f Cfb Encrypt 128 register unit size (stepBy ran out after)
-    unfolding outBlock outOf nextOf cipher next
+    unfolding outBlock outOf nextOf cipherUnit next
     cfb-encrypted ho h = by-run run all-bits text (h ∙ shifted size hr ho le ∙ ap (λ c. pack (shiftIn (bits register) c)) text)
 
     pub cfb-decrypted : {after : List ℕ} → after ≡ packTo 16 (drop size (bits register) ++ take size (bits unit))
         → Turned f Cfb Decrypt 128 register unit size (stepBy ran out after)
-    unfolding outBlock outOf nextOf plain next
+    unfolding outBlock outOf nextOf plainUnit next
     cfb-decrypted h = by-run run all-bits text (h ∙ shifted size hr hu le)
 
     pub ofb-turned : (dir : Direction) → Turned f Ofb dir 128 register unit size (stepBy ran out (ran .block))
-    unfolding outBlock outOf nextOf cipher plain next
+    unfolding outBlock outOf nextOf cipherUnit plainUnit next
     ofb-turned Encrypt = by-run run all-bits text (run .made)
     ofb-turned Decrypt = by-run run all-bits text (run .made)
 
     pub ctr-turned : (dir : Direction) {m : ℕ} {after : List ℕ} → after ≡ increment m register → Turned f Ctr dir m register unit size (stepBy ran out after)
-    unfolding outBlock outOf nextOf cipher plain next
+    unfolding outBlock outOf nextOf cipherUnit plainUnit next
     ctr-turned Encrypt h = by-run run all-bits text h
     ctr-turned Decrypt h = by-run run all-bits text h
 
@@ -137,7 +137,7 @@ stream-size {size = size} h (inr (inr e)) = leb-true size 128 (sym (ap (λ m. un
 
 module _ {f enc dec : List ℕ → List ℕ} {r : List ℕ} (block : Block r) (u : List Bool) where
   pub out-same : (mode : Mode) (dir : Direction) → Runs f enc dec mode dir → UnitLength mode (length u) → outOf f f mode dir r u ≡ outOf enc dec mode dir r u
-  unfolding outOf cipher plain next runsDec decrypting UnitLength
+  unfolding outOf cipherUnit plainUnit next runsDec isDecrypt UnitLength
   out-same Ecb Encrypt runs l = rw (runs .same (pack u) (pack-block u l))
   out-same Ecb Decrypt runs l = rw (runs .same (pack u) (pack-block u l))
   out-same Cbc Encrypt runs l = rw (runs .same (xorBytes (pack u) r) (xorBytes-block (pack-block u l) block))
@@ -150,7 +150,7 @@ module _ {f enc dec : List ℕ → List ℕ} {r : List ℕ} (block : Block r) (u
   out-same Ctr Decrypt runs l = rw (runs .same r block)
 
   pub next-same : (mode : Mode) (dir : Direction) (m : ℕ) → Runs f enc dec mode dir → UnitLength mode (length u) → nextOf f f mode dir m r u ≡ nextOf enc dec mode dir m r u
-  unfolding nextOf cipher next runsDec decrypting UnitLength
+  unfolding nextOf cipherUnit next runsDec isDecrypt UnitLength
   next-same Ecb Encrypt m runs l = refl
   next-same Ecb Decrypt m runs l = refl
   next-same Cbc Encrypt m runs l = rw (runs .same (xorBytes (pack u) r) (xorBytes-block (pack-block u l) block))
@@ -163,6 +163,6 @@ module _ {f enc dec : List ℕ → List ℕ} {r : List ℕ} (block : Block r) (u
   next-same Ctr Decrypt m runs l = refl
 
 -- What was prepared runs it.
-pub runs-prepared : {dec : Bool} {mode : Mode} {dir : Direction} {rounds : ℕ} {keys table last words : List ℕ} → PreparedFor dec rounds keys table last words → dec ≡ runsDec mode dir
-    → Runs (blockBy dec rounds table last words) (Enc rounds keys) (Dec rounds keys) mode dir
+pub runs-prepared : {dec : Bool} {mode : Mode} {dir : Direction} {rounds : ℕ} {keys p : List ℕ} → PreparedFor dec rounds keys p → dec ≡ runsDec mode dir
+    → Runs (preparedBlock p) (Enc rounds keys) (Dec rounds keys) mode dir
 runs-prepared p e = record { same = λ b block. p .same b block ∙ rw e }

@@ -7,8 +7,8 @@ use lib.ListN.{length, drop, replicate}
 use lib.Seq.{length-take-le, take-at}
 use Rattle.bits.proofs.Owned.{arrays}
 use Rattle.modes.specs.Sessions.{Arrays}
-use Rattle.grammar.specs.Texts.{hexBytes}
-use Rattle.grammar.proofs.DigitLaws.{length-hexBytes}
+use Rattle.digits.specs.Texts.{hexBytes}
+use Rattle.digits.proofs.DigitLaws.{length-hexBytes}
 use Rattle.lines.proofs.FeedLines.{decoded, front-there, WholeFeed, whole-feed}
 use borrow.Author.Needs.{needs, length-unmapped}
 use Rattle.lines.proofs.feed_all.Statement.{statement}

@@ -2,7 +2,7 @@
 use mathlib.Core.Path.{sym, ap, _∙_}
 use native.Mathlib.Omega.{arith}
 use lib.ListN.{length, replicate}
-use Rattle.grammar.proofs.DigitLaws.{length-hexBytes}
+use Rattle.digits.proofs.DigitLaws.{length-hexBytes}
 use Rattle.lines.proofs.FeedLines.{decoded}
 use borrow.Author.Needs.{needs}
 use Rattle.lines.proofs.open_with.Statement.{statement}

@@ -3,7 +3,7 @@ use mathlib.Core.Path.{_≡_, refl, sym, _∙_}
 use native.Mathlib.Omega.{arith}
 use borrow.Author.Needs.{needs}
 use borrow.Author.Tests.{eq-eqb, ne-eqb}
-use Rattle.places.specs.Places.{placeNumber}
+use Rattle.places.specs.Answers.{ofBlockNumber}
 use Rattle.places.proofs.AnswerLaws.{accepted-length}
 use Rattle.places.proofs.of_block.Statement.{statement}
 use Rattle.places.proofs.of_block.Tie as tie
@@ -16,7 +16,7 @@ returns c =
     let e = c .before .number .ensures in
     record { answer = e; increments = rw (ne-eqb _ 0 (λ z. c .if1 .taken (e ∙ z))) refl }
 
-zero : (c : tie.Else1) → let a = c .before .before .args in placeNumber (a .iv) (a .block) (a .m) ≡ 0
+zero : (c : tie.Else1) → let a = c .before .before .args in ofBlockNumber (a .iv) (a .block) (a .m) ≡ 0
 zero c = sym (c .before .number .ensures) ∙ c .if1 .left
 
 difference-requires : tie.Need-difference-requires

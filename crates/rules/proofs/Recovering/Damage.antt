@@ -15,9 +15,9 @@ use Rattle.bits.proofs.Xors.{xorBits-comm}
 use Rattle.rules.specs.declared.Mode.the-variants.{Ecb, Cbc, Cfb}
 use Rattle.rules.specs.declared.Direction.the-variants.{Decrypt}
 use Rattle.rules.specs.Lengths.{unitLengthOk}
-use Rattle.rules.specs.Rules.{start, plain, unitAt, unitsIn, registerAt, worked}
+use Rattle.rules.specs.Rules.{start, plainUnit, unitAt, unitsIn, registerAt, worked}
 use Rattle.rules.specs.Standard.{ciphInv}
-use Rattle.rules.specs.Recovery.{recovers, recoveryUnits}
+use Rattle.rules.specs.Recovery.{recoveryUnits}
 use Rattle.rules.specs.Promises.{Differ, OneUnitChanged, OneBlockChanged, OnlyBlockDamaged, OneBlockDamaged, OneSegmentDamaged}
 use Rattle.rules.proofs.Counts.{whole-there}
 use Rattle.rules.proofs.Joined.{unit-length}
@@ -33,7 +33,7 @@ use Rattle.rules.proofs.Recovering.OneUnit.{plain-unit, there, changed-
 
 module _ {enc dec : List ℕ → List ℕ} (ciphers : BlockCipher enc dec) (m : ℕ) (v : List ℕ) (block : Block (start Ecb v)) (x y : List Bool) (tx : Taken Ecb 128 x) (ty : Taken Ecb 128 y) (j : ℕ) (change : OneBlockChanged x y j) where
   pub only-block-damaged : OnlyBlockDamaged (worked enc dec Ecb Decrypt 128 m (start Ecb v) x) (worked enc dec Ecb Decrypt 128 m (start Ecb v) y) j
-  unfolding unitLengthOk recovers recoveryUnits
+  unfolding unitLengthOk recoveryUnits
   only-block-damaged =
       record {
         here = damaged-here ciphers m v block x y tx ty j change;
@@ -52,7 +52,7 @@ module _ {enc dec : List ℕ → List ℕ} (ciphers : BlockCipher enc dec) (m : 
       let d = unitAt 128 x (suc t) in
       let l : length c ≡ 128 = text .unit t (le-of-lt h) in
       plain-unit ciphers m v block text (suc t) h
-      ∙ ap (λ (r : List ℕ). plain enc dec Cbc r d) (cbc-register enc dec m 128 (start Cbc v) x t)
+      ∙ ap (λ (r : List ℕ). plainUnit enc dec Cbc r d) (cbc-register enc dec m 128 (start Cbc v) x t)
       ∙ cbc-plain ciphers (pack-block c l) d (text .unit (suc t) h)
       ∙ ap (xorBits (ciphInv enc dec d)) (block-bits-pack c l)
       ∙ xorBits-comm (ciphInv enc dec d) c
@@ -72,7 +72,7 @@ module _ {enc dec : List ℕ → List ℕ} (ciphers : BlockCipher enc dec) (m : 
         (omega (arith, bits-block (ciphers .dec-block (pack d) (pack-block d (tx .unit (suc j) h))))) b)
 
     pub one-block-damaged : OneBlockDamaged x y (worked enc dec Cbc Decrypt 128 m (start Cbc v) x) (worked enc dec Cbc Decrypt 128 m (start Cbc v) y) j
-    unfolding unitLengthOk recovers recoveryUnits
+    unfolding unitLengthOk recoveryUnits
     one-block-damaged =
         record {
           here = damaged-here ciphers m v block x y tx ty j change;
@@ -85,7 +85,7 @@ module _ {enc dec : List ℕ → List ℕ} (ciphers : BlockCipher enc dec) (m : 
 module _ {enc dec : List ℕ → List ℕ} (ciphers : BlockCipher enc dec) (m : ℕ) {n : ℕ} (v : List ℕ) (block : Block (start Cfb v)) (x y : List Bool) (tx : Taken Cfb n x) (ty : Taken Cfb n y) (j : ℕ) (change : OneUnitChanged n x y j) where
   segment-here : (b : ℕ) → Differ (unitAt n (worked enc dec Cfb Decrypt n m (start Cfb v) x) j) (unitAt n (worked enc dec Cfb Decrypt n m (start Cfb v) y) j) b
       ↔ Differ (unitAt n x j) (unitAt n y j) b
-  unfolding plain UnitLength
+  unfolding plainUnit UnitLength
   segment-here b =
       let h = changed-there ciphers m v block x y tx ty j change in
       let i = there ciphers m v block x y tx ty j change j h in
@@ -102,7 +102,7 @@ module _ {enc dec : List ℕ → List ℕ} (ciphers : BlockCipher enc dec) (m : 
 
   pub one-segment-damaged : unitLengthOk Cfb n ≡ true
       → OneSegmentDamaged n x y (worked enc dec Cfb Decrypt n m (start Cfb v) x) (worked enc dec Cfb Decrypt n m (start Cfb v) y) j
-  unfolding recovers
+  unfolding recoveryUnits
   one-segment-damaged ok =
       record {
         here = segment-here;

@@ -4,6 +4,7 @@ use Prim.Native.Nat.{ℕ, suc, _+_, _-_, _*_, _≤_, _<_}
 use mathlib.Core.Path.{_≡_, sym, ap, ap₂, _∙_}
 use mathlib.Core.Bool.{Bool, true}
 use mathlib.Core.List.{List}
+use mathlib.Core.Option.{some}
 use native.Mathlib.Nat.{le-refl, le-of-lt, mul-le-mul-right}
 use native.Mathlib.Decide.{decLt, decLe}
 use native.Mathlib.Omega.{arith}
@@ -12,8 +13,8 @@ use Rattle.bits.specs.Blocks.{Block, BlockCipher}
 use Rattle.rules.specs.declared.Mode.{Mode}
 use Rattle.rules.specs.declared.Direction.the-variants.{Decrypt}
 use Rattle.rules.specs.Lengths.{unitLengthOk}
-use Rattle.rules.specs.Rules.{start, cipher, plain, outOf, unitAt, unitsIn, registerAt, outAt, worked}
-use Rattle.rules.specs.Recovery.{recovers, recoveryUnits}
+use Rattle.rules.specs.Rules.{start, cipherUnit, plainUnit, outOf, unitAt, unitsIn, registerAt, outAt, worked}
+use Rattle.rules.specs.Recovery.{recoveryUnits}
 use Rattle.rules.specs.Promises.{OneUnitChanged}
 use Rattle.rules.proofs.Counts.{unit-there, whole-there, units-cover}
 use Rattle.rules.proofs.Joined.{unit-past}
@@ -25,13 +26,13 @@ use Rattle.rules.proofs.Recovering.Runs.{run-register}
 
 -- Different units stay different under one register.
 plain-cancel : {enc dec : List ℕ → List ℕ} → BlockCipher enc dec → {r : List ℕ} → Block r → (mode : Mode) (c d : List Bool)
-    → UnitLength mode (length c) → UnitLength mode (length d) → plain enc dec mode r c ≡ plain enc dec mode r d → c ≡ d
+    → UnitLength mode (length c) → UnitLength mode (length d) → plainUnit enc dec mode r c ≡ plainUnit enc dec mode r d → c ≡ d
 plain-cancel {enc} {dec} ciphers {r} block mode c d lc ld same =
-    sym (cipher-plain ciphers block mode c lc) ∙ ap (cipher enc dec mode r) same ∙ cipher-plain ciphers block mode d ld
+    sym (cipher-plain ciphers block mode c lc) ∙ ap (cipherUnit enc dec mode r) same ∙ cipher-plain ciphers block mode d ld
 
 module _ {enc dec : List ℕ → List ℕ} (ciphers : BlockCipher enc dec) (m : ℕ) {mode : Mode} {n : ℕ} (v : List ℕ) (block : Block (start mode v)) where
   pub plain-unit : {x : List Bool} → Taken mode n x → (t : ℕ) → t < unitsIn n (length x)
-      → unitAt n (worked enc dec mode Decrypt n m (start mode v) x) t ≡ plain enc dec mode (registerAt enc dec mode Decrypt n m (start mode v) x t) (unitAt n x t)
+      → unitAt n (worked enc dec mode Decrypt n m (start mode v) x) t ≡ plainUnit enc dec mode (registerAt enc dec mode Decrypt n m (start mode v) x t) (unitAt n x t)
   unfolding outAt outOf
   plain-unit text t h = worked-unit ciphers m Decrypt block text t h
 
@@ -46,7 +47,7 @@ module _ {enc dec : List ℕ → List ℕ} (ciphers : BlockCipher enc dec) (m : 
     register-before t h = register-same enc dec mode Decrypt n m (start mode v) x y t (λ s i. change .others s (omega arith))
 
     -- behind unit j the texts are a common run
-    register-behind : unitLengthOk mode n ≡ true → recovers mode ≡ true → (t : ℕ) → suc j + recoveryUnits mode n ≤ t → t * n ≤ length x
+    register-behind : unitLengthOk mode n ≡ true → {c : ℕ} → recoveryUnits mode n ≡ some c → (t : ℕ) → suc j + c ≤ t → t * n ≤ length x
         → registerAt enc dec mode Decrypt n m (start mode v) x t ≡ registerAt enc dec mode Decrypt n m (start mode v) y t
     register-behind ok rec t from inside =
         let k = t - suc j in
@@ -56,7 +57,7 @@ module _ {enc dec : List ℕ → List ℕ} (ciphers : BlockCipher enc dec) (m : 
         (record { inside-x = rw e inside; inside-y = rw (e, ← change .same-length) inside; equal = λ s h. change .others (suc j + s) (omega arith) })
         mode ok block block rec k (omega arith) (le-refl k))
 
-    pub undamaged : unitLengthOk mode n ≡ true → recovers mode ≡ true → (t : ℕ) → (j ≤ t → suc j + recoveryUnits mode n ≤ t)
+    pub undamaged : unitLengthOk mode n ≡ true → {c : ℕ} → recoveryUnits mode n ≡ some c → (t : ℕ) → (j ≤ t → suc j + c ≤ t)
         → unitAt n (worked enc dec mode Decrypt n m (start mode v) x) t ≡ unitAt n (worked enc dec mode Decrypt n m (start mode v) y) t
     undamaged ok rec t outside = either (decLt t (unitsIn n (length x)))
       where
@@ -68,7 +69,7 @@ module _ {enc dec : List ℕ → List ℕ} (ciphers : BlockCipher enc dec) (m : 
             → unitAt n (worked enc dec mode Decrypt n m (start mode v) x) t ≡ unitAt n (worked enc dec mode Decrypt n m (start mode v) y) t
         either (yes h) =
             plain-unit tx t h
-            ∙ ap₂ (plain enc dec mode) (register h (decLe j t)) (change .others t (λ e. omega (arith, outside (omega arith))))
+            ∙ ap₂ (plainUnit enc dec mode) (register h (decLe j t)) (change .others t (λ e. omega (arith, outside (omega arith))))
             ∙ sym (plain-unit ty t (there t h))
         either (no h) =
             let behind : unitsIn n (length x) ≤ t = omega arith in
@@ -83,4 +84,4 @@ module _ {enc dec : List ℕ → List ℕ} (ciphers : BlockCipher enc dec) (m : 
         change .changed
         (plain-cancel ciphers (registers-block ciphers m Decrypt block tx j (le-of-lt h)) mode (unitAt n x j) (unitAt n y j) (tx .unit j h) (ty .unit j i)
         (sym (plain-unit tx j h) ∙ e ∙ plain-unit ty j i
-        ∙ ap (λ (r : List ℕ). plain enc dec mode r (unitAt n y j)) (sym (register-before j (le-refl j)))))
+        ∙ ap (λ (r : List ℕ). plainUnit enc dec mode r (unitAt n y j)) (sym (register-before j (le-refl j)))))

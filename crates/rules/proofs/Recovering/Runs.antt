@@ -4,6 +4,7 @@ use Prim.Native.Nat.{ℕ, zero, suc, _+_, _-_, _*_, _≤_, _<_}
 use mathlib.Core.Path.{_≡_, refl, sym, ap, ap₂, _∙_}
 use mathlib.Core.Bool.{Bool, true}
 use mathlib.Core.List.{List}
+use mathlib.Core.Option.{some, Option·some-injective}
 use native.Mathlib.Nat.{le-of-lt, add-suc, not-suc-le-zero, mul-le-mul-right}
 use native.Mathlib.Omega.{arith}
 use lib.ListN.{length, take, drop, length-drop}
@@ -15,7 +16,7 @@ use Rattle.rules.specs.declared.Mode.the-variants.{Ecb, Cbc, Cfb, Ofb, C
 use Rattle.rules.specs.declared.Direction.the-variants.{Decrypt}
 use Rattle.rules.specs.Lengths.{unitLengthOk}
 use Rattle.rules.specs.Rules.{next, nextOf, outOf, start, unitAt, unitsIn, registerAt, outAt, worked}
-use Rattle.rules.specs.Recovery.{recovers, recoveryUnits}
+use Rattle.rules.specs.Recovery.{recoveryUnits}
 use Rattle.rules.specs.Promises.{CommonRun}
 use Rattle.rules.proofs.Counts.{whole-there, units-cover}
 use Rattle.rules.proofs.Joined.{unit-from, joined-same, joined-units}
@@ -68,20 +69,20 @@ module _ {enc dec : List ℕ → List ℕ} (ciphers : BlockCipher enc dec) (m : 
         (run-bits n (drop (i * n) x) (drop (j * n) y) t (λ s h. unit-from n x i s ∙ run .equal s (omega arith) ∙ sym (unit-from n y j s)))
         ∙ sym (register-from enc dec Cfb Decrypt n m w y j t)
 
-    pub run-register : (mode : Mode) → unitLengthOk mode n ≡ true → Block (start mode v) → Block (start mode w) → recovers mode ≡ true
-        → (t : ℕ) → recoveryUnits mode n ≤ t → t ≤ k
+    pub run-register : (mode : Mode) → unitLengthOk mode n ≡ true → Block (start mode v) → Block (start mode w) → {c : ℕ} → recoveryUnits mode n ≡ some c
+        → (t : ℕ) → c ≤ t → t ≤ k
         → registerAt enc dec mode Decrypt n m (start mode v) x (i + t) ≡ registerAt enc dec mode Decrypt n m (start mode w) y (j + t)
-    unfolding recovers recoveryUnits start
+    unfolding recoveryUnits start
     run-register Ecb ok bv bw rec t from upto = ecb-register enc dec m n _ x (i + t) ∙ sym (ecb-register enc dec m n _ y (j + t))
-    run-register Cbc ok bv bw rec zero from upto = absurd (not-suc-le-zero from)
+    run-register Cbc ok bv bw rec zero from upto = absurd (not-suc-le-zero (rw (← Option·some-injective _ _ rec) at from))
     run-register Cbc ok bv bw rec (suc t) from upto = cbc-run t upto
-    run-register Cfb ok bv bw rec t from upto = cfb-run (unit-bounds Cfb n ok) bv bw t from upto
+    run-register Cfb ok bv bw rec t from upto = cfb-run (unit-bounds Cfb n ok) bv bw t (rw (← Option·some-injective _ _ rec) at from) upto
     run-register Ofb ok bv bw rec t from upto = cc
     run-register Ctr ok bv bw rec t from upto = cc
 
     -- plaintext units
     pub run-unit : (mode : Mode) → unitLengthOk mode n ≡ true → Taken mode n x → Taken mode n y → Block (start mode v) → Block (start mode w)
-        → recovers mode ≡ true → (t : ℕ) → recoveryUnits mode n ≤ t → t < k
+        → {c : ℕ} → recoveryUnits mode n ≡ some c → (t : ℕ) → c ≤ t → t < k
         → unitAt n (worked enc dec mode Decrypt n m (start mode v) x) (i + t) ≡ unitAt n (worked enc dec mode Decrypt n m (start mode w) y) (j + t)
     unfolding outAt
     run-unit mode ok tx ty bv bw rec t from upto =

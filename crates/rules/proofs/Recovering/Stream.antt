@@ -3,8 +3,9 @@
 use Prim.Native.Nat.{ℕ, zero, suc, _*_, _≤_, _<_}
 use mathlib.Core.Path.{_≡_, refl, sym, ap, _∙_}
 use mathlib.Core.Logic.{_↔_}
-use mathlib.Core.Bool.{Bool, false}
+use mathlib.Core.Bool.{Bool}
 use mathlib.Core.List.{List, []}
+use mathlib.Core.Option.{none}
 use native.Mathlib.Nat.{le-of-lt, zero-mul, suc-mul}
 use native.Mathlib.Omega.{arith}
 use lib.ListN.{length, take, length-take}
@@ -16,8 +17,8 @@ use Rattle.bits.proofs.Xors.{xorBits-append}
 use Rattle.rules.specs.declared.Mode.{Mode}
 use Rattle.rules.specs.declared.Mode.the-variants.{Ecb, Cbc, Cfb, Ofb, Ctr}
 use Rattle.rules.specs.declared.Direction.the-variants.{Decrypt}
-use Rattle.rules.specs.Rules.{mask, next, plain, outOf, nextOf, unitAt, unitsIn, joined, registerAt, outAt, worked}
-use Rattle.rules.specs.Recovery.{recovers}
+use Rattle.rules.specs.Rules.{mask, next, plainUnit, outOf, nextOf, unitAt, unitsIn, joined, registerAt, outAt, worked}
+use Rattle.rules.specs.Recovery.{recoveryUnits}
 use Rattle.rules.specs.Promises.{Differ}
 use Rattle.rules.proofs.Counts.{unit-there, units-cover}
 use Rattle.rules.proofs.Joined.{unit-short, joined-length}
@@ -37,23 +38,23 @@ joined-xor n x f (suc k) full inside =
     (sym (xorBits-append (take (k * n) x) (unitAt n x k) (joined k f) (f k) (rw length-take (omega arith))))
 
 module _ (enc dec : List ℕ → List ℕ) where
-  next-free : (mode : Mode) (m : ℕ) (r : List ℕ) (c d : List Bool) → recovers mode ≡ false → next enc dec mode m r c ≡ next enc dec mode m r d
-  unfolding next recovers
+  next-free : (mode : Mode) (m : ℕ) (r : List ℕ) (c d : List Bool) → recoveryUnits mode 128 ≡ none → next enc dec mode m r c ≡ next enc dec mode m r d
+  unfolding next recoveryUnits
   next-free Ecb m r c d free = cc
   next-free Cbc m r c d free = cc
   next-free Cfb m r c d free = cc
   next-free Ofb m r c d free = refl
   next-free Ctr m r c d free = refl
 
-  plain-stream : (mode : Mode) (r : List ℕ) (c : List Bool) → recovers mode ≡ false → plain enc dec mode r c ≡ mask c (enc r)
-  unfolding plain next recovers
+  plain-stream : (mode : Mode) (r : List ℕ) (c : List Bool) → recoveryUnits mode 128 ≡ none → plainUnit enc dec mode r c ≡ mask c (enc r)
+  unfolding plainUnit next recoveryUnits
   plain-stream Ecb r c free = cc
   plain-stream Cbc r c free = cc
   plain-stream Cfb r c free = cc
   plain-stream Ofb r c free = refl
   plain-stream Ctr r c free = refl
 
-  register-free : (mode : Mode) (n m : ℕ) (r : List ℕ) (x y : List Bool) → recovers mode ≡ false → (t : ℕ)
+  register-free : (mode : Mode) (n m : ℕ) (r : List ℕ) (x y : List Bool) → recoveryUnits mode 128 ≡ none → (t : ℕ)
       → registerAt enc dec mode Decrypt n m r x t ≡ registerAt enc dec mode Decrypt n m r y t
   unfolding registerAt nextOf
   register-free mode n m r x y free zero = refl
@@ -69,7 +70,7 @@ module _ (enc dec : List ℕ → List ℕ) where
   stream mode m r k = joined k (λ t. bits (streamAt mode m r t))
 
 module _ {enc dec : List ℕ → List ℕ} (ciphers : BlockCipher enc dec) (m : ℕ) where
-  module _ (mode : Mode) (free : recovers mode ≡ false) {r : List ℕ} (block : Block r) (x : List Bool) (text : Taken mode 128 x) where
+  module _ (mode : Mode) (free : recoveryUnits mode 128 ≡ none) {r : List ℕ} (block : Block r) (x : List Bool) (text : Taken mode 128 x) where
     stream-block : (t : ℕ) → t < unitsIn 128 (length x) → Block (streamAt enc dec mode m r t)
     unfolding streamAt
     stream-block t h = rw (register-free enc dec mode 128 m r [] x free t) (ciphers .enc-block _ (registers-block ciphers m Decrypt block text t (le-of-lt h)))
@@ -93,7 +94,7 @@ module _ {enc dec : List ℕ → List ℕ} (ciphers : BlockCipher enc dec) (m : 
         (λ t h. le-of-lt (unit-there (length x) t (text .some) .0 h))
         ∙ ap (λ (z : List Bool). xorBits z (stream enc dec mode m r (unitsIn 128 (length x)))) (take-all (unitsIn 128 (length x) * 128) x (units-cover (length x) (text .some)))
 
-  pub stream-damage : (mode : Mode) → recovers mode ≡ false → {r : List ℕ} → Block r → (x y : List Bool) → Taken mode 128 x → Taken mode 128 y
+  pub stream-damage : (mode : Mode) → recoveryUnits mode 128 ≡ none → {r : List ℕ} → Block r → (x y : List Bool) → Taken mode 128 x → Taken mode 128 y
       → length x ≡ length y → (b : ℕ) → Differ (worked enc dec mode Decrypt 128 m r x) (worked enc dec mode Decrypt 128 m r y) b ↔ Differ x y b
   stream-damage mode free {r} block x y tx ty same b =
       rw (worked-stream mode free block x tx, worked-stream mode free block y ty, ← same)

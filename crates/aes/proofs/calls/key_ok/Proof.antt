@@ -4,7 +4,7 @@ use mathlib.Core.Bool.{true, cond}
 use mathlib.Core.Logic.{⊎-elim}
 use lib.Dec.{eqb}
 use lib.ListN.{length}
-use Rattle.cipher.proofs.TestLaws.{met-first, met-second, settled, unsettled}
+use Rattle.bits.proofs.TestLaws.{met-first, met-second, settled, unsettled}
 use Rattle.aes.specs.Calls.{keyOk}
 use Rattle.aes.proofs.calls.key_ok.Statement.{statement}
 use Rattle.aes.proofs.calls.key_ok.Tie as tie

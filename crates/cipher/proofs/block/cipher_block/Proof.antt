@@ -4,11 +4,11 @@ use mathlib.Core.List.{List}
 use Prim.Native.Nat.{ℕ, _-_, _≤_}
 use native.Mathlib.Omega.{arith}
 use borrow.Author.Needs.{needs}
-use Rattle.cipher.specs.State.{fromBlock}
-use Rattle.cipher.specs.Steps.{addRoundKey}
+use Rattle.steps.specs.State.{fromBlock}
+use Rattle.steps.specs.Steps.{addRoundKey}
 use Rattle.cipher.specs.Cipher.{rounds}
-use Rattle.cipher.proofs.StateLaws.{StateBytes}
-use Rattle.cipher.proofs.Owned.{state-bytes}
+use Rattle.steps.proofs.StateLaws.{StateBytes}
+use Rattle.steps.proofs.Owned.{state-bytes}
 use Rattle.cipher.proofs.RoundLaws.{rounds-bounds, round-more, cipher-done}
 use Rattle.cipher.proofs.block.cipher_block.Statement.{statement}
 use Rattle.cipher.proofs.block.cipher_block.Tie as tie

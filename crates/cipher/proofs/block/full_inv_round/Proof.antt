@@ -1,8 +1,8 @@
 -- InvShiftRows and InvSubBytes in turn, AddRoundKey row by row (`StepLaws`), then InvMixColumns. Assumes nothing.
 use mathlib.Core.Path.{ap, _∙_}
-use Rattle.cipher.specs.State.{at}
-use Rattle.cipher.specs.Steps.{bytewise, invMixColumns, addRoundKey}
-use Rattle.cipher.proofs.StepLaws.{add-rows}
+use Rattle.steps.specs.State.{at}
+use Rattle.steps.specs.Steps.{bytewise, invMixColumns, addRoundKey}
+use Rattle.steps.proofs.StepLaws.{add-rows}
 use borrow.Author.Needs.{needs}
 use Rattle.cipher.proofs.block.full_inv_round.Statement.{statement}
 use Rattle.cipher.proofs.block.full_inv_round.Tie as tie

@@ -1,8 +1,8 @@
 -- SubBytes, ShiftRows and MixColumns in turn, then AddRoundKey row by row (`StepLaws`). Assumes nothing.
 use mathlib.Core.Path.{ap, _∙_}
-use Rattle.cipher.specs.State.{at}
-use Rattle.cipher.specs.Steps.{shiftRows, mixColumns, addRoundKey}
-use Rattle.cipher.proofs.StepLaws.{add-rows}
+use Rattle.steps.specs.State.{at}
+use Rattle.steps.specs.Steps.{shiftRows, mixColumns, addRoundKey}
+use Rattle.steps.proofs.StepLaws.{add-rows}
 use borrow.Author.Needs.{needs}
 use Rattle.cipher.proofs.block.full_round.Statement.{statement}
 use Rattle.cipher.proofs.block.full_round.Tie as tie

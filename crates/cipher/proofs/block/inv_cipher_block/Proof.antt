@@ -3,10 +3,10 @@ use mathlib.Core.Path.{_≡_, refl, ap, _∙_}
 use Prim.Native.Nat.{_-_, _≤_, _<_}
 use native.Mathlib.Omega.{arith}
 use borrow.Author.Needs.{needs}
-use Rattle.cipher.specs.Steps.{addRoundKey}
+use Rattle.steps.specs.Steps.{addRoundKey}
 use Rattle.cipher.specs.Cipher.{invRounds}
-use Rattle.cipher.proofs.StateLaws.{StateBytes}
-use Rattle.cipher.proofs.Owned.{state-bytes}
+use Rattle.steps.proofs.StateLaws.{StateBytes}
+use Rattle.steps.proofs.Owned.{state-bytes}
 use Rattle.cipher.proofs.RoundLaws.{rounds-bounds, round-less, invCipher-done}
 use Rattle.cipher.proofs.block.inv_cipher_block.Statement.{statement}
 use Rattle.cipher.proofs.block.inv_cipher_block.Tie as tie

@@ -4,7 +4,7 @@ use mathlib.Core.Bool.{true, cond}
 use mathlib.Core.Logic.{⊎-elim}
 use lib.Dec.{eqb}
 use Rattle.cipher.specs.Cipher.{roundsOk}
-use Rattle.cipher.proofs.TestLaws.{met-first, met-second, settled, unsettled}
+use Rattle.bits.proofs.TestLaws.{met-first, met-second, settled, unsettled}
 use Rattle.cipher.proofs.block.rounds_ok.Statement.{statement}
 use Rattle.cipher.proofs.block.rounds_ok.Tie as tie
 

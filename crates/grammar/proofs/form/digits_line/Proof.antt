@@ -6,7 +6,8 @@ use native.Mathlib.Numerals.{add-one}
 use borrow.Author.Tests.{not-true, not-false}
 use borrow.Author.Needs.{needs}
 use lib.Seq.{length-take-le}
-use Rattle.grammar.proofs.LineLaws.{part-rest, found, no-line, hexLine-is, rest-inside, fit-front}
+use Rattle.digits.proofs.CutLaws.{part-rest}
+use Rattle.grammar.proofs.LineLaws.{found, no-line, hexLine-is, rest-inside, fit-front}
 use Rattle.grammar.proofs.form.digits_line.Statement.{statement}
 use Rattle.grammar.proofs.form.digits_line.Tie as tie
 

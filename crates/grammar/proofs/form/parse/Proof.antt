@@ -3,9 +3,9 @@ use mathlib.Core.Path.{sym, ap, _∙_}
 use native.Mathlib.Nat.{le-of-lt}
 use borrow.Author.Needs.{needs}
 use lib.Seq.{length-take-le}
-use Rattle.grammar.specs.Answers.{firstIn}
+use Rattle.header.specs.Answers.{firstIn}
 use Rattle.grammar.specs.Grammar.{request}
-use Rattle.grammar.proofs.LineLaws.{cut-none, cut-some}
+use Rattle.digits.proofs.CutLaws.{cut-none, cut-some}
 use Rattle.grammar.proofs.form.parse.Statement.{statement}
 use Rattle.grammar.proofs.form.parse.Tie as tie
 

@@ -2,7 +2,7 @@
 -- nothing.
 use mathlib.Core.Path.{sym, ap, _∙_}
 use borrow.Author.Needs.{needs}
-use Rattle.grammar.specs.Answers.{firstIn}
+use Rattle.header.specs.Answers.{firstIn}
 use Rattle.grammar.proofs.reading.first_good.Statement.{statement}
 use Rattle.grammar.proofs.reading.first_good.Tie as tie
 

@@ -17,8 +17,8 @@ prepare-requires c κs = search needs
 
 work-units-requires : tie.Need-work-units-requires
 work-units-requires c κs =
-    let made = c .before .before .before .before .before in
-    let dec = made .before .before in
+    let made = c .before .before in
+    let dec = made .before .before .before in
     let s = dec .before .before .before .before in
     (s .pre .0, record { rounds-ok = s .pre .1; keys-bytes = keys-are s; runs = runs-prepared (made .prepare .ensures .block-function) (dec .runs-dec .ensures) })
 

@@ -5,7 +5,7 @@ use mathlib.Core.Path.{ap, _∙_}
 use native.Mathlib.Omega.{arith}
 use lib.ListN.{take, drop}
 use Rattle.bits.specs.Texts.{bits, packTo}
-use Rattle.units.specs.Turns.{unitSizeOk}
+use Rattle.units.specs.inner.Turns.{unitSizeOk}
 use Rattle.modes.proofs.WorkLaws.{part-all, unit-inside, unit-size-ok, unit-fits, unit-worked}
 use borrow.Author.Needs.{needs}
 use Rattle.modes.proofs.work.work_unit.Statement.{statement}
@@ -20,14 +20,14 @@ sub-smaller c = let p = c .before .before .pre in omega (arith, unit-inside (p .
 smaller-requires : tie.Need-smaller-requires
 smaller-requires c κs = search needs
 
-sub-turn : tie.Need-sub-turn
-sub-turn c = let p = c .before .before .before .pre in omega (arith, unit-inside (p .0) (p .1), p .0 .within)
+sub-part : tie.Need-sub-part
+sub-part c = let p = c .before .before .before .pre in omega (arith, unit-inside (p .0) (p .1), p .0 .within)
 
-part-turn-start : tie.Need-part-turn-start
-part-turn-start c = let p = c .before .before .before .pre in omega (arith, unit-inside (p .0) (p .1), p .0 .within)
+part-part-start : tie.Need-part-part-start
+part-part-start c = let p = c .before .before .before .pre in omega (arith, unit-inside (p .0) (p .1), p .0 .within)
 
-part-turn-end : tie.Need-part-turn-end
-part-turn-end c = search needs
+part-part-end : tie.Need-part-part-end
+part-part-end c = search needs
 
 turn-requires : tie.Need-turn-requires
 turn-requires c κs = let p = c .before .before .before .before .pre in ap (unitSizeOk _) (c .before .smaller .ensures) ∙ unit-size-ok (p .0) (p .1)
@@ -44,7 +44,7 @@ returns c =
     let small = turned .before .before in
     let s = small .before .before .before in
     let a = s .args in
-    let at = a .t * a .n in
+    let at = a .t * a .session .n in
     unit-worked (s .pre .0) (s .pre .1) (small .smaller .ensures)
     (ap (λ l. packTo 16 (take (small .smaller .result) (drop (at % 8) (bits l)))) (part-all (at / 8) (a .input .now))) (turned .turn .ensures)
     (c .before .before .before .put-bits .ensures)
@@ -56,9 +56,9 @@ work-unit-spec =
     mul-at
     sub-smaller
     smaller-requires
-    sub-turn
-    part-turn-start
-    part-turn-end
+    sub-part
+    part-part-start
+    part-part-end
     turn-requires
     put-bits-requires
     same-length

@@ -1,6 +1,6 @@
 -- The invariant: t units are through (`WorkLaws`). The measure is the units left. Assumes nothing.
 use Prim.Native.Nat.{_-_, _≤_, zero-le}
-use mathlib.Core.Path.{_≡_, sym}
+use mathlib.Core.Path.{_≡_, refl, sym}
 use native.Mathlib.Numerals.{add-one}
 use native.Mathlib.Omega.{arith}
 use lib.ListN.{length}
@@ -13,10 +13,10 @@ use Rattle.modes.proofs.work.work_units.Statement.{statement}
 use Rattle.modes.proofs.work.work_units.Tie as tie
 
 abbrev Inv-loop : tie.InvT-loop
-Inv-loop session dec table last words input bits out₀ mode direction units done₀ t₀ out done t = Through mode direction (session .n) (session .m) (session .rounds) (session .keys) (session .register) input bits out₀ t done out × (t ≤ units)
+Inv-loop session prepared input bits out₀ units done₀ t₀ out done t = Through (session .mode) (session .direction) (session .n) (session .m) (session .rounds) (session .keys) (session .register) input bits out₀ t done out × (t ≤ units)
 
 abbrev μ-loop : tie.MeasureT-loop
-μ-loop session dec table last words input bits out₀ mode direction units done₀ t₀ out done t = units - t
+μ-loop session prepared input bits out₀ units done₀ t₀ out done t = units - t
 
 register-is : (s : tie.Start Inv-loop μ-loop) → Block (s .args .session .register)
 register-is s = search arrays
@@ -58,8 +58,8 @@ loop-again c =
     let w = c .before .before .before .before .before in
     let l = w .before .before .before .before in (
       rw add-one
-          (one-through (entry l .pre .0) (entry l .pre .1) (entry l .args .session .m) (register-is (entry l)) (l .loop .t) (rw (counted l) at (w .before .before .before .loop-test .taken))
-          (l .loop .inv .0) (w .work-unit .ensures)),
+          (one-through (entry l .pre .0) (entry l .pre .1) (entry l .args .session .m) (register-is (entry l)) (l .loop .t)
+          (rw (counted l) at (w .before .before .before .loop-test .taken)) (l .loop .inv .0) (w .work-unit .ensures) refl),
       omega arith,
     )
 

@@ -4,7 +4,7 @@ use Prim.Native.Nat.{_+_, _-_, _*_, _≤_}
 use native.Mathlib.Omega.{arith}
 use lib.ListN.{length, length-set}
 use Rattle.cipher.proofs.RoundLaws.{rounds-bounds}
-use Rattle.prepared.specs.Prepared.{Holds, reversedRule, zeroFrom}
+use Rattle.prepared.specs.inner.Parts.{Holds, reversedRule, zeroFrom}
 use Rattle.prepared.proofs.FillLaws.{zero-bytes, zero-next, zero-all}
 use Rattle.prepared.proofs.keys.reversed_words.Statement.{statement}
 use Rattle.prepared.proofs.keys.reversed_words.Tie as tie

@@ -5,7 +5,7 @@ use native.Mathlib.Omega.{arith}
 use lib.ListN.{length, length-set}
 use borrow.Author.Needs.{needs}
 use Rattle.cipher.proofs.RoundLaws.{rounds-bounds}
-use Rattle.prepared.specs.Prepared.{Unmixed}
+use Rattle.prepared.specs.inner.Parts.{Unmixed}
 use Rattle.prepared.proofs.FillLaws.{unmixed-none, unmixed-next, unmixed-all}
 use Rattle.prepared.proofs.keys.unmix_middle.Statement.{statement}
 use Rattle.prepared.proofs.keys.unmix_middle.Tie as tie

@@ -1,22 +1,26 @@
--- The parts together (`PreparedLaws`). Assumes nothing.
-use mathlib.Core.Path.{refl}
+-- The parts, one behind the other (`PartLaws`), and what they are for (`PreparedLaws`). Assumes nothing.
+use Rattle.prepared.proofs.PartLaws.{all-held}
 use Rattle.prepared.proofs.PreparedLaws.{prepared-by}
 use borrow.Author.Needs.{needs}
 use Rattle.prepared.proofs.preparation.prepare.Statement.{statement}
 use Rattle.prepared.proofs.preparation.prepare.Tie as tie
 
-substitution-requires : tie.Need-substitution-requires
-substitution-requires c κs = search needs
+fill-tables-requires : tie.Need-fill-tables-requires
+fill-tables-requires c κs = search needs
 
-fill-table-requires : tie.Need-fill-table-requires
-fill-table-requires c κs = search needs
+fill-words-requires : tie.Need-fill-words-requires
+fill-words-requires c κs = search needs
 
-schedule-requires : tie.Need-schedule-requires
-schedule-requires c κs = search needs
+fill-ends-requires : tie.Need-fill-ends-requires
+fill-ends-requires c κs = search needs
 
 returns : tie.Need-returns
-returns c = prepared-by _ _ _ refl (c .before .before .before .substitution .ensures) (c .before .fill-table .ensures) (c .schedule .ensures)
+returns c =
+    let words = c .before .before in
+    let tables = words .before .before in
+    let a = tables .before .before .args in
+    prepared-by (a .decrypting) (a .rounds) (a .keys .now)
+    (all-held (a .decrypting) (a .rounds) (a .keys .now) (tables .fill-tables .ensures) (words .fill-words .ensures) (c .fill-ends .ensures))
 
 pub prepare-spec : {M : Type 1} → statement M
-prepare-spec =
-    tie.close (tie.spec substitution-requires fill-table-requires schedule-requires returns)
+prepare-spec = tie.close (tie.spec fill-tables-requires fill-words-requires fill-ends-requires returns)

@@ -1,7 +1,7 @@
 -- By doublings (`DoublingLaws`), and by cases on the direction. Assumes nothing.
 use mathlib.Core.Path.{ap, sym, _∙_}
 use Rattle.bits.specs.Xor.{xor}
-use Rattle.prepared.specs.Prepared.{columnTimes}
+use Rattle.prepared.specs.inner.Parts.{columnTimes}
 use Rattle.prepared.proofs.DoublingLaws.{forward-entry, backward-entry}
 use borrow.Author.Needs.{needs}
 use Rattle.prepared.proofs.table.entry.Statement.{statement}

@@ -12,7 +12,7 @@ use Rattle.modes.specs.Sessions.{openedSession, openNumber, fedText}
 use Rattle.modes.proofs.AnswerLaws.{part-written}
 use Rattle.modes.proofs.WorkLaws.{part-all}
 use Rattle.modes.proofs.OpeningLaws.{opened-session, opened-ready}
-use Rattle.stealing.specs.Stealing.{stolenText}
+use Rattle.stolen.specs.Stealing.{stolenText}
 use Rattle.questions.proofs.QuestionLaws.{opening-taken}
 use Rattle.stealing.proofs.KeyLaws.{Keyed, keyed, stolen-bytes}
 use Rattle.stealing.proofs.NumberLaws.{opening-no, opening-yes, MessageTaken, message-taken}

@@ -1,6 +1,6 @@
 -- By the mode. Assumes nothing.
 use mathlib.Core.Path.{refl}
-use Rattle.units.specs.Turns.{runsDec}
+use Rattle.units.specs.inner.Turns.{runsDec}
 use borrow.Author.Needs.{needs}
 use Rattle.units.proofs.unit.runs_dec.Statement.{statement}
 use Rattle.units.proofs.unit.runs_dec.Tie as tie

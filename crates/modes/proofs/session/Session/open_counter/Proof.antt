@@ -1,107 +1,55 @@
--- The questions in their order (`AnswerLaws`); the register is the IV's bits as a block. Assumes nothing.
-use mathlib.Core.Path.{_≡_, sym, _∙_}
-use mathlib.Core.Bool.{true, false}
+-- Refused by its number, or the key's expansion with the IV's bits as a block. Assumes nothing.
+use mathlib.Core.Path.{_≡_, refl, sym, _∙_}
+use mathlib.Core.Bool.{true}
 use native.Mathlib.Omega.{arith}
-use borrow.Author.Tests.{not-true, not-false}
 use Rattle.bits.specs.Blocks.{Bytes}
-use Rattle.aes.specs.Calls.{keyOk}
-use Rattle.rules.specs.Lengths.{unitLengthOk}
+use Rattle.modes.specs.Sessions.{openNumber, openedSession}
 use Rattle.questions.specs.Questions.{ivOk}
-use Rattle.modes.specs.Sessions.{openedSession}
-use Rattle.modes.proofs.AnswerLaws.{key-no, key-yes, refused-1, refused-2, refused-3, refused-14, accepted-opening}
+use Rattle.questions.proofs.QuestionLaws.{opening-taken}
+use Rattle.modes.proofs.AnswerLaws.{opening-refused, opening-accepted}
 use Rattle.modes.proofs.WorkLaws.{start-window}
 use borrow.Author.Needs.{needs}
 use Rattle.modes.proofs.session.Session.open_counter.Statement.{statement}
 use Rattle.modes.proofs.session.Session.open_counter.Tie as tie
 
-key-bad : (c : tie.After-refused) → keyOk (c .before .before .before .before .before .before .args .key .now) ≡ false
-key-bad c =
-    let e = c .before .before .before in
-    key-no _ (λ z. omega (arith, c .before .if1 .taken, e .expand .ensures .answer, z))
-
-key-ok : (c : tie.Else1) → keyOk (c .before .before .before .before .before .args .key .now) ≡ true
-key-ok c = key-yes _ (sym (c .before .before .expand .ensures .answer) ∙ c .if1 .left)
-
-iv-good : (c : tie.Else2) → ivOk (c .before .before .before .before .before .before .before .args .mode) (c .before .before .before .before .before .before .before .args .iv .now) ≡ true
-iv-good c = sym (c .before .iv-ok .ensures) ∙ not-false _ (c .if2 .left)
-
-unit-good : (c : tie.Else3) → let a = c .before .before .before .before .before .before .before .before .before .args in unitLengthOk (a .mode) (a .n) ≡ true
-unit-good c = sym (c .before .unit-length-ok .ensures) ∙ not-false _ (c .if3 .left)
-
-expand-requires : tie.Need-expand-requires
-expand-requires c κs = search needs
+open-number-requires : tie.Need-open-number-requires
+open-number-requires c κs = search needs
 
 refused-requires : tie.Need-refused-requires
 refused-requires c κs = search needs
 
 returns : tie.Need-returns
-returns c = refused-1 _ _ _ _ _ _ (key-bad c) (c .refused .ensures)
+unfolding openNumber
+returns c = opening-refused _ _ _ _ _ _ (c .before .before .open-number .ensures) (λ z. omega (arith, z, c .before .if1 .taken)) (c .refused .ensures)
 
-iv-ok-requires : tie.Need-iv-ok-requires
-iv-ok-requires c κs = search needs
+-- an accepted opening
+abbrev entry : tie.Else1 → tie.Start
+entry c = c .before .before .before .before
 
-refused-requires-2 : tie.Need-refused-requires-2
-refused-requires-2 c κs = search needs
+accepted : (c : tie.Else1) → let a = entry c .args in openNumber (a .mode) (a .n) (a .m) (a .key .now) (a .iv .now) ≡ 0
+unfolding openNumber
+accepted c = sym (c .before .open-number .ensures) ∙ c .if1 .left
 
-returns-2 : tie.Need-returns-2
-returns-2 c =
-    let i = c .before .before in
-    refused-2 _ _ _ _ _ _ (key-ok (i .before)) (sym (i .iv-ok .ensures) ∙ not-true _ (c .before .if2 .taken)) (c .refused2 .ensures)
+iv-good : (c : tie.Else1) → let a = entry c .args in ivOk (a .mode) (a .iv .now) ≡ true
+unfolding openNumber
+iv-good c = opening-taken _ _ _ _ _ (accepted c) .iv-size
 
-unit-length-ok-requires : tie.Need-unit-length-ok-requires
-unit-length-ok-requires c κs = search needs
-
-refused-requires-3 : tie.Need-refused-requires-3
-refused-requires-3 c κs = search needs
-
-returns-3 : tie.Need-returns-3
-returns-3 c =
-    let u = c .before .before in
-    refused-3 _ _ _ _ _ _ (key-ok (u .before .before .before)) (iv-good (u .before)) (sym (u .unit-length-ok .ensures) ∙ not-true _ (c .before .if3 .taken)) (c .refused3 .ensures)
-
-counter-length-ok-requires : tie.Need-counter-length-ok-requires
-counter-length-ok-requires c κs = search needs
-
-refused-requires-4 : tie.Need-refused-requires-4
-refused-requires-4 c κs = search needs
-
-returns-4 : tie.Need-returns-4
-returns-4 c =
-    let m = c .before .before in
-    let u = m .before .before in
-    refused-14 _ _ _ _ _ _ (key-ok (u .before .before .before)) (iv-good (u .before)) (unit-good (m .before)) (sym (m .counter-length-ok .ensures) ∙ not-true _ (c .before .if4 .taken)) (c .refused4 .ensures)
+expand-requires : tie.Need-expand-requires
+expand-requires c κs = search needs
 
 window-requires : tie.Need-window-requires
 window-requires c κs = search needs
 
-returns-5 : tie.Need-returns-5
+returns-2 : tie.Need-returns-2
 unfolding openedSession
-returns-5 c =
+returns-2 c =
     let w = c .before in
-    let m = w .before .before in
-    let u = m .before .before in
-    let k = u .before .before .before in
-    let x = k .before .before .expand .ensures in
-    let s = k .before .before .before .before .before in
-    let v : Bytes (s .args .iv .now) = record { byte = λ i. omega (arith, k .before .before .before .shared-slice-known2 .given i) } in
-    accepted-opening _ _ _ _ _ _ (key-ok k) (iv-good (u .before)) (unit-good (m .before)) (sym (m .counter-length-ok .ensures) ∙ not-false _ (w .before .if4 .left))
-    (rw (x .expanded-rounds, x .expanded-keys, w .window .ensures ∙ start-window (s .args .mode) (s .args .iv .now) v (iv-good (u .before))))
+    let x = w .before .expand .ensures in
+    let e = w .before .before in
+    let a = entry e .args in
+    let v : Bytes (a .iv .now) = record { byte = λ i. omega (arith, e .before .before .shared-slice-known2 .given i) } in
+    opening-accepted _ _ _ _ _ _ (accepted e)
+    (rw (x .expanded-rounds, x .expanded-keys, w .window .ensures ∙ start-window (a .mode) (a .iv .now) v (iv-good e)) refl)
 
 pub open-counter-spec : {M : Type 1} → statement M
-open-counter-spec =
-    tie.close
-    (tie.spec
-    expand-requires
-    refused-requires
-    returns
-    iv-ok-requires
-    refused-requires-2
-    returns-2
-    unit-length-ok-requires
-    refused-requires-3
-    returns-3
-    counter-length-ok-requires
-    refused-requires-4
-    returns-4
-    window-requires
-    returns-5)
+open-counter-spec = tie.close (tie.spec open-number-requires refused-requires returns expand-requires window-requires returns-2)

@@ -1,0 +1,1 @@
+// Lists of calls of any kind, in specs/, with their laws. No code.

@@ -1,0 +1,2 @@
+-- The counter, byte by byte.
+pub mod Overflows

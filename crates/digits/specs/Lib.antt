@@ -1,0 +1,2 @@
+-- Texts as bytes, and the digits in them.
+pub mod Texts

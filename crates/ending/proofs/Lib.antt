@@ -1,0 +1,2 @@
+-- The last two blocks on bytes are a message of two blocks.
+pub mod EndingLaws

@@ -1,0 +1,4 @@
+-- Laws about the definitions of specs/, a file to a subject.
+pub mod Filled
+pub mod WordLaws
+pub mod KeyLaws
