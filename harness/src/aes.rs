@@ -75,7 +75,7 @@ fn appendix_c(_: &mut Rng) -> Outcome {
     Ok(())
 }
 
-// The bytes behind the expanded ones are 0 on both sides.
+// The bytes after the expanded ones are 0 on both sides.
 fn expansions(rng: &mut Rng, length: usize) -> Outcome {
     for _ in 0..CASES {
         let key = rng.bytes(length);

@@ -1,5 +1,5 @@
-// What the program replay must print for each line of its input: the commands that stand at the head of crates/replay/src/main.rt,
-// over the reference.
+// What the program replay must print for each line of its input: the commands that stand at the head of
+// crates/replay/src/main.rt, over the reference.
 use crate::direction::Direction;
 use crate::fips197::Schedule;
 use crate::hex::{self, hex, word};
@@ -40,7 +40,8 @@ pub fn names() -> Vec<&'static str> {
     COMMANDS.iter().map(|command| command.0).collect()
 }
 
-// What stays from line to line. Both sessions are a refused opening's at first; `alike` compares with the one that is kept.
+// What stays from line to line. Both sessions are a refused opening's at first; `alike` compares with the one that is
+// kept.
 #[derive(Clone)]
 pub struct Replay {
     pub session: Session,
@@ -55,8 +56,8 @@ impl Replay {
         }
     }
 
-    // The line that is printed for this one, both without their line feeds. None for an empty line and for a comment, which print
-    // nothing.
+    // The line that is printed for this one, both without their line feeds. None for an empty line and for a comment,
+    // which print nothing.
     pub fn answer(&mut self, line: &[u8]) -> Option<String> {
         match line.first() {
             None | Some(b'#') => None,
@@ -238,7 +239,8 @@ struct Output {
     place: usize,
 }
 
-// A line's words that are not read yet. They are parted by single spaces: two in a row part an empty word off, which is of no kind.
+// A line's words that are not read yet. Single spaces separate them: between two in a row is an empty word, which is of
+// no kind.
 struct Words<'a> {
     rest: Split<'a, u8, fn(&u8) -> bool>,
 }

@@ -1,15 +1,16 @@
-// Measures the proved code beside OpenSSL's and libtomcrypt's. A line for each row: its name, the unit (ns for a block or a
-// feed, or MB/s), then the figures of Rattle, OpenSSL and libtomcrypt (`-` where there is none), parted by tabs. The script
-// bench runs this with OpenSSL's AES instructions on and off.
+// Measures the proved code beside OpenSSL's and libtomcrypt's. A line for each row: its name, the unit (ns for a block
+// or a feed, or MB/s), then the figures of Rattle, OpenSSL and libtomcrypt (`-` where there is none), separated by
+// tabs. The script bench runs this with OpenSSL's AES instructions on and off.
 #![allow(dead_code)]
+mod cost;
 mod direction;
 mod openssl;
 mod rattle;
 mod tomcrypt;
 
+use cost::fastest;
 use direction::Direction;
 use openssl::Cipher;
-use std::time::Instant;
 
 const CHAIN: usize = 2_000;
 const TEXT: usize = 16 * 1024;
@@ -101,8 +102,8 @@ fn block(length: usize, direction: Direction) {
     nanoseconds(&name, best.map(Some), CHAIN);
 }
 
-// A feed of one block in CBC, and what of it is not the block's: a text in one feed has all its blocks and that once, in
-// feeds of a block once for each block.
+// A feed of one block in CBC, and what of it is not the block's: a text in one feed has all its blocks and that once,
+// in feeds of a block once for each block.
 fn feeds_of_a_block(direction: Direction) {
     let blocks = TEXT / 16;
     let whole = feeds(MODES[1], direction, TEXT);
@@ -114,8 +115,9 @@ fn feeds_of_a_block(direction: Direction) {
     nanoseconds(&name, [beyond, None, None], blocks - 1);
 }
 
-// The seconds of 16 KiB in feeds of `size` bytes under a key of 16 bytes. Each side keeps its session, and the texts are
-// compared. Rattle's count of units is set back before each turn, since 400 turns are more units than a counter of 13 bits takes.
+// The seconds of 16 KiB in feeds of `size` bytes under a key of 16 bytes. Each side keeps its session, and the texts
+// are compared. Rattle's count of units is set back before each turn, since 400 turns are more units than a counter of
+// 13 bits takes.
 fn feeds((name, mode, n, m, theirs): Mode, direction: Direction, size: usize) -> [Option<f64>; 3] {
     let key: Vec<u8> = (0..16).collect();
     let iv: Vec<u8> = if mode == 0 {
@@ -139,7 +141,8 @@ fn feeds((name, mode, n, m, theirs): Mode, direction: Direction, size: usize) ->
             &mut || {
                 rattle.units = 0;
                 for at in (0..TEXT).step_by(size) {
-                    assert!(rattle.feed(&input[at..at + size], 8 * size, ours, at).0 == 0);
+                    let part = &input[at..at + size];
+                    assert!(rattle.feed_bare(part, 8 * size, ours, at).0 == 0);
                 }
             },
             &mut || {
@@ -173,26 +176,13 @@ fn feeds((name, mode, n, m, theirs): Mode, direction: Direction, size: usize) ->
     ]
 }
 
-// The seconds of the fastest turn of each of three jobs. The turns alternate, so that all meet the same machine.
-fn fastest(turns: usize, mut jobs: [&mut dyn FnMut(); 3]) -> [f64; 3] {
-    let mut best = [f64::MAX; 3];
-    for _ in 0..turns {
-        for (job, best) in jobs.iter_mut().zip(&mut best) {
-            let start = Instant::now();
-            job();
-            *best = best.min(start.elapsed().as_secs_f64());
-        }
-    }
-    best
-}
-
-// A row for seconds in which `count` blocks or feeds were worked.
+// A row for seconds in which `count` blocks or feeds were processed.
 fn nanoseconds(name: &str, seconds: [Option<f64>; 3], count: usize) {
     let each = |seconds: f64| seconds * 1e9 / count as f64;
     row(name, "ns", seconds.map(|s| s.map(each)));
 }
 
-// A row for seconds in which 16 KiB were worked.
+// A row for seconds in which 16 KiB were processed.
 fn speed(name: &str, seconds: [Option<f64>; 3]) {
     let rate = |seconds: f64| TEXT as f64 / seconds / 1e6;
     row(name, "MB/s", seconds.map(|s| s.map(rate)));

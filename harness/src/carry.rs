@@ -1,10 +1,9 @@
-// Sessions that the release before request 07 opened, carried over (request 07), through the static library: they go on as the
-// reference does within that release's 4,294,967,295 units, then on to 2^64 - 1, and no further.
-use crate::arguments::{any_direction, any_key, Feed};
-use crate::counters::any_iv;
+// Sessions that the release before request 07 opened, carried over (request 07), through the static library: they go on
+// as the reference does within that release's 4,294,967,295 units, then on to 2^64 - 1, and no further.
+use crate::arguments::{any_direction, any_iv, any_key, Feed};
 use crate::direction::Direction;
 use crate::hex::hex;
-use crate::rattle::{self, Session32};
+use crate::rattle::{self, Session32, NO_MODE};
 use crate::reference::{self, counts, Mode, MAX_BITS, MAX_UNITS, MODES, OLDER_MAX_UNITS};
 use crate::report::{equal, Outcome, Report};
 use crate::rng::Rng;
@@ -91,14 +90,16 @@ fn any_older(rng: &mut Rng) -> Session32 {
             1 => rng.below(256),
             _ => rng.below(5),
         },
-        decrypting: rng.below(2) == 0,
+        decrypting: rng.number() as u8,
+        spare: rng.bytes(7).try_into().expect("7 bytes"),
         n: rng.number() as usize >> rng.below(64),
         m: rng.number() as usize >> rng.below(64),
         rounds: rng.number() as usize >> rng.below(64),
         keys,
         register: rng.block(),
         units: any_units(rng),
-        closed: rng.below(2) == 0,
+        closed: rng.number() as u8,
+        spare2: rng.bytes(3).try_into().expect("3 bytes"),
     }
 }
 
@@ -118,6 +119,7 @@ fn parts_kept(rng: &mut Rng) -> Outcome {
             register: older.register,
             units: u64::from(older.units),
             closed: older.closed,
+            spare: [0; 6],
         };
         equal(|| format!("{older:?}"), &expected, &session)?;
         equal(|| "the older session".to_string(), &before, &older)?;
@@ -134,7 +136,7 @@ fn parts_kept(rng: &mut Rng) -> Outcome {
             let fed = session.feed(&[0; 16], 128, &mut out, 0);
             equal(
                 || format!("fed with mode {}", older.mode),
-                ((12, 0), &expected, [9; 16]),
+                ((NO_MODE, 0), &expected, [9; 16]),
                 (fed, &session, out),
             )?;
         }
@@ -194,14 +196,16 @@ fn any_session(rng: &mut Rng, mode: Mode, n: usize) -> reference::Session {
 fn older_of(session: &reference::Session) -> Session32 {
     Session32 {
         mode: session.mode as usize,
-        decrypting: session.direction == Direction::Decrypt,
+        decrypting: (session.direction == Direction::Decrypt) as u8,
+        spare: [0; 7],
         n: session.n,
         m: session.m,
         rounds: session.schedule.rounds,
         keys: session.schedule.keys,
         register: session.register,
         units: u32::try_from(session.units).expect("units of 32 bits"),
-        closed: session.closed,
+        closed: session.closed as u8,
+        spare2: [0; 3],
     }
 }
 
@@ -218,13 +222,7 @@ fn feed_both(
     let fed = theirs.feed_within(limit, &feed.input, feed.bits, &mut expected, feed.place);
     let came = ours.feed(&feed.input, feed.bits, &mut out, feed.place);
     same(
-        || {
-            let input = hex(&feed.input);
-            format!(
-                "{named}, after {before} units {} bits of {input} to {}",
-                feed.bits, feed.place
-            )
-        },
+        || format!("{named}, after {before} units {}", feed.named()),
         (fed, theirs, &expected),
         (came, ours, &out),
     )?;
@@ -266,9 +264,9 @@ fn goes_on(rng: &mut Rng, mode: Mode) -> Outcome {
 const CROSSED: &str = "crossed";
 const NOT_CROSSED: &str = "15 where it was 9";
 
-// One feed of both, from a session that the older release could have, and what happened. As long as that release does not answer
-// 9, today's answers as it did. Where it does, and leaves all as it was, today's works the feed if the counter has the values for
-// it, else answers 15.
+// One feed of both, from a session that the older release could have, and what happened. As long as that release does
+// not answer 9, today's answers as it did. Where it does, and leaves all as it was, today's takes the feed if the
+// counter has the values for it, else answers 15.
 fn feed_as_older(
     named: &str,
     feed: &Feed,
@@ -429,7 +427,7 @@ fn last_units(rng: &mut Rng, mode: Mode) -> Outcome {
     largest(rng, mode)
 }
 
-// A feed of so many bits, with room for it.
+// A feed of this many bits, with room for it.
 fn of_bits(rng: &mut Rng, bits: usize) -> Feed {
     let size = reference::parts(bits, 8);
     Feed {

@@ -1,33 +1,15 @@
-// What a call costs by the length of its message: a program makes the call many times over, and its run is timed.
-use crate::process;
-use std::time::{Duration, Instant};
+// What a piece of work costs.
+use std::time::Instant;
 
-// The program's best time of several runs, on each input, its start among it. Each run must write what is expected.
-pub fn best<const N: usize>(
-    program: &str,
-    runs: usize,
-    inputs: [(Vec<u8>, String); N],
-) -> Result<[Duration; N], String> {
-    let mut best = [Duration::MAX; N];
-    for _ in 0..runs {
-        for ((input, expected), best) in inputs.iter().zip(&mut best) {
-            *best = (*best).min(time(program, input, expected)?);
+// The seconds of the fastest turn of each job. The turns alternate, so that all meet the same machine.
+pub fn fastest<const N: usize>(turns: usize, mut jobs: [&mut dyn FnMut(); N]) -> [f64; N] {
+    let mut best = [f64::MAX; N];
+    for _ in 0..turns {
+        for (job, best) in jobs.iter_mut().zip(&mut best) {
+            let start = Instant::now();
+            job();
+            *best = best.min(start.elapsed().as_secs_f64());
         }
     }
-    Ok(best)
-}
-
-fn time(program: &str, input: &[u8], expected: &str) -> Result<Duration, String> {
-    let start = Instant::now();
-    let written = process::run(program, input)?;
-    let time = start.elapsed();
-    if written == expected.as_bytes() {
-        Ok(time)
-    } else {
-        Err(format!(
-            "{program} on {} bytes: {:?}",
-            input.len(),
-            String::from_utf8_lossy(&written)
-        ))
-    }
+    best
 }

@@ -1,6 +1,7 @@
-// Counters of m bits in CTR (request 05), through the static library: against libtomcrypt where m is whole bytes, for every m
-// against counter blocks that are computed as numbers and encrypted by OpenSSL, and against the reference for all arguments.
-use crate::arguments::Feed;
+// Counters of m bits in CTR (request 05), through the static library: against libtomcrypt where m is whole bytes, for
+// every m against counter blocks that are computed as numbers and encrypted by OpenSSL, and against the reference for
+// all arguments.
+use crate::arguments::{any_iv, Feed, NO_COUNTER};
 use crate::direction::Direction;
 use crate::hex::hex;
 use crate::openssl::Key;
@@ -18,19 +19,6 @@ const TEXTS: usize = 20;
 // Up to these m a counter is led through all its values, and the registers of each are kept.
 const WALKED: usize = 16;
 const KEPT: usize = 12;
-
-// Numbers that are no m.
-pub const NO_COUNTER: [usize; 9] = [
-    0,
-    129,
-    130,
-    255,
-    256,
-    256 + 13,
-    1 << 32,
-    (1 << 32) + 32,
-    usize::MAX,
-];
 
 pub fn run(report: &mut Report) {
     for length in KEY_LENGTHS {
@@ -75,21 +63,6 @@ pub fn counter_block(iv: &[u8; 16], m: usize, t: u128) -> [u8; 16] {
     let first = u128::from_be_bytes(*iv);
     let count = first.wrapping_add(t) & counting(m);
     (first & !counting(m) | count).to_be_bytes()
-}
-
-// Any IV, or one whose counter wraps at once or soon. Where its other bits are 1 too, a carry out of the counter would reach
-// all of them.
-pub fn any_iv(rng: &mut Rng, m: usize) -> [u8; 16] {
-    let mut iv = u128::from_be_bytes(rng.block());
-    match rng.below(3) {
-        0 => {}
-        1 => iv |= counting(m),
-        _ => iv = (iv | counting(m)) - (rng.below(20) as u128 & counting(m)),
-    }
-    if rng.below(4) == 0 {
-        iv |= !counting(m);
-    }
-    iv.to_be_bytes()
 }
 
 fn blocks_of(m: usize) -> usize {
@@ -172,7 +145,7 @@ fn texts(
                 hex(&expected),
                 hex(&counter_block(&iv, m, units as u128)),
                 units,
-                bits % 128 != 0,
+                (bits % 128 != 0) as u8,
             ),
             (
                 hex(&came),
@@ -256,7 +229,7 @@ fn walked(rng: &mut Rng) -> Outcome {
         // all values were used, and the counter is again where it began
         equal(
             || format!("m {m}, after all units"),
-            (hex(&iv), blocks_of(m), false),
+            (hex(&iv), blocks_of(m), 0),
             (
                 hex(&session.register),
                 session.units as usize,
@@ -336,10 +309,7 @@ fn feed_both(
     let fed = theirs.feed(&feed.input, feed.bits, &mut expected, feed.place);
     let came = ours.feed(&feed.input, feed.bits, &mut out, feed.place);
     same(
-        || {
-            let input = hex(&feed.input);
-            format!("{opening}, {} bits of {input} to {}", feed.bits, feed.place)
-        },
+        || format!("{opening}, {}", feed.named()),
         (fed, theirs, &expected),
         (came, ours, &out),
     )

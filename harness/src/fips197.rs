@@ -1,5 +1,5 @@
-// AES as FIPS 197 says it: bytes are polynomials, and each table is computed from its rule. The round keys may be any bytes, those
-// that no key gives too. A block is the state: byte 4c + r stands in row r, column c (section 3.4).
+// AES as FIPS 197 says it: bytes are polynomials, and each table is computed from its rule. The round keys may be any
+// bytes, those that no key gives too. A block is the state: byte 4c + r stands in row r, column c (section 3.4).
 use std::array::from_fn;
 
 type Block = [u8; 16];
@@ -24,8 +24,8 @@ const fn product(a: u8, b: u8) -> u8 {
     sum as u8
 }
 
-// The byte that has the product 01 with b, and 00 for 00. It is b to the power 254 = 2 + 4 + .. + 128, since a byte other than 00 to
-// the power 255 is 01.
+// The byte that has the product 01 with b, and 00 for 00. It is b to the power 254 = 2 + 4 + .. + 128, since a byte
+// other than 00 to the power 255 is 01.
 const fn inverse(b: u8) -> u8 {
     let mut power = 1;
     let mut square = b;
@@ -38,7 +38,8 @@ const fn inverse(b: u8) -> u8 {
     power
 }
 
-// SubBytes of a byte: bit i is the XOR of bits i, i+4, i+5, i+6 and i+7 of the inverse and of bit i of 63 (section 5.1.1).
+// SubBytes of a byte: bit i is the XOR of bits i, i+4, i+5, i+6 and i+7 of the inverse and of bit i of 63 (section
+// 5.1.1).
 const fn sub_byte(b: u8) -> u8 {
     let v = inverse(b);
     v ^ v.rotate_right(4) ^ v.rotate_right(5) ^ v.rotate_right(6) ^ v.rotate_right(7) ^ 0x63

@@ -1,5 +1,5 @@
-// The forms of replay's lines: a line of another form prints `?` and changes nothing; an empty line and a comment print nothing and
-// change nothing.
+// The forms of replay's lines: a line of another form prints `?` and changes nothing; an empty line and a comment print
+// nothing and change nothing.
 use crate::answers::{self, MAX_BYTES, MAX_LINE};
 use crate::arguments::{any_key, Feed};
 use crate::direction::Direction;
@@ -54,7 +54,8 @@ const HEAD_LINE: &str = "//     ";
 
 const BLOCK: &str = "5a0123456789abcdef00ff80807f015a";
 
-// Words that are not of a kind, parted by spaces; the empty word is of none. Beside those of digits stand the bytes next to them.
+// Words that are not of a kind, separated by spaces; the empty word is of none. Beside those of digits stand the bytes
+// next to them.
 const NO_MODES: &str = "- 0 ecb ctr Ecb CB CBCX GCM";
 const NO_DIRECTIONS: &str = "- 0 e d F ED";
 const NO_NUMBERS: &str = "- -1 +1 x 1x 1a 0x8 1.0 8\r 8\t 8\0 /0 :0 \
@@ -129,7 +130,7 @@ fn replaced(words: &[&str], from: usize, to: usize, by: &[&str]) -> String {
     [&words[..from], by, &words[to..]].concat().join(" ")
 }
 
-// A good line with words too few, too many, in another order, or parted in another way.
+// A good line with words too few, too many, in another order, or separated in another way.
 fn parted_wrongly(words: &[&str]) -> Vec<String> {
     let end = words.len();
     let mut lines = vec![

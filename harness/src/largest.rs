@@ -1,5 +1,5 @@
-// Lines of replay that are too long for a list that a person reads: the largest of each word and of a line, the largest texts of
-// the calls, and what is one more.
+// Lines of replay that are too long for a list that a person reads: the largest of each word and of a line, the largest
+// texts of the calls, and what is one more.
 use crate::answers::{MAX_BYTES, MAX_LINE};
 use crate::arguments::{any_key, iv_for, Feed};
 use crate::direction::Direction;
@@ -38,7 +38,7 @@ pub fn run(report: &mut Report) {
     );
 }
 
-// So many lines of a command are answered by each of these numbers.
+// Each of these numbers answers the given count of a command's lines.
 fn answered(script: &Script, command: &str, numbers: &[(&str, usize)]) -> Outcome {
     for (number, count) in numbers {
         let came = script.how_often(command, number);

@@ -1,4 +1,5 @@
-// A list of calls, a file of the folder lists: input for the program replay, where the comment after a command is its answer.
+// A list of calls, a file of the folder lists: input for the program replay, where the comment after a command is its
+// answer.
 //
 //     #= ANSWER    as a document publishes it. Where it ends in ` ..`, the words after that are not published.
 //     #> ANSWER    as the reference writes it (harness/answers)

@@ -1,5 +1,5 @@
-// The lists of calls in the folder lists, each through the program replay and through the reference: both have to give each
-// command's answer, and the same one, also where only a part of it is published.
+// The lists of calls in the folder lists, each through the program replay and through the reference: both have to give
+// each command's answer, and the same one, also where only a part of it is published.
 use crate::answers::Replay;
 use crate::list_file::{commands, parts, Answer, Kind};
 use crate::process;

@@ -1,5 +1,5 @@
-// What other programs see of the proved code, held against a second implementation. The tests go by subject, a file each;
-// its `run` hands its tests to the report.
+// What other programs see of the proved code, compared with a second implementation. The tests go by
+// subject, a file each; its `run` hands its tests to the report.
 mod aes;
 mod answers;
 mod arguments;
@@ -7,6 +7,7 @@ mod carry;
 mod cost;
 mod counters;
 mod direction;
+mod exports;
 mod fips197;
 mod forms;
 mod hex;
@@ -36,6 +37,7 @@ fn main() {
     sessions::run(&mut report);
     counters::run(&mut report);
     carry::run(&mut report);
+    exports::run(&mut report);
     scenario::run(&mut report);
     stack::run(&mut report);
     replay::run(&mut report);

@@ -255,7 +255,7 @@ fn hostile(rng: &mut Rng) -> Outcome {
     for input in inputs {
         prints(&input, "12\n")?;
     }
-    // 1 MB of noise behind a text that is good
+    // 1 MB of noise after a text that is good
     let mut noise = EXAMPLE.as_bytes().to_vec();
     noise.extend(rng.bytes(1_000_000));
     prints(&noise, "12\n")
@@ -403,7 +403,7 @@ fn pieces(rng: &mut Rng) -> Outcome {
     answers(&mut byte_by_byte(bad, 1)?, bad, "12\n")
 }
 
-// A program that is written to in single bytes, with so many milliseconds behind each.
+// A program that is written to in single bytes, with `pause` milliseconds after each.
 fn byte_by_byte(text: &[u8], pause: u64) -> Result<Held, String> {
     let mut program = held(&[])?;
     for byte in text {

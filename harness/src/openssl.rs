@@ -1,4 +1,5 @@
-// OpenSSL's libcrypto, the second implementation: the few functions of evp.h, params.h and aes.h that are needed, declared by hand.
+// OpenSSL's libcrypto, the second implementation: the few functions of evp.h, params.h and aes.h that are needed,
+// declared by hand.
 use crate::direction::Direction;
 use std::ffi::CString;
 use std::os::raw::{c_char, c_int, c_uchar, c_uint, c_void};
@@ -122,7 +123,8 @@ impl Cipher {
         }
     }
 
-    // CBC with ciphertext stealing as RFC 2040 has it, which is OpenSSL's CS3. The whole message goes through in one update.
+    // CBC with ciphertext stealing as RFC 2040 has it, which is OpenSSL's CS3. The whole message goes through in one
+    // update.
     pub fn stealing(key: &[u8], iv: &[u8], direction: Direction) -> Cipher {
         assert!(iv.len() == 16);
         let name = CString::new(format!("AES-{}-CBC-CTS", 8 * key.len())).unwrap();
@@ -148,7 +150,7 @@ impl Cipher {
         }
     }
 
-    // Puts the input through. Both slices are as long; in ECB and CBC they are whole blocks.
+    // Puts the input through. Both slices are equally long; in ECB and CBC they are whole blocks.
     pub fn update(&mut self, input: &[u8], out: &mut [u8]) {
         assert!(input.len() == out.len());
         let mut written: c_int = 0;
@@ -181,7 +183,7 @@ pub fn block(key: &[u8], direction: Direction, block: &[u8; 16]) -> [u8; 16] {
     out
 }
 
-// The rounds and the round keys of a key, with 0 behind the expanded ones.
+// The rounds and the round keys of a key, with 0 after the expanded ones.
 pub fn expand(key: &[u8]) -> (usize, [u8; 240]) {
     let mut schedule = Schedule {
         keys: [0; 240],
@@ -192,7 +194,7 @@ pub fn expand(key: &[u8]) -> (usize, [u8; 240]) {
     (schedule.rounds as usize, schedule.keys)
 }
 
-// Enc under so many rounds and these round keys.
+// Enc under this many rounds and these round keys.
 pub fn enc_under(rounds: usize, keys: &[u8; 240], block: &[u8; 16]) -> [u8; 16] {
     let schedule = Schedule {
         keys: *keys,

@@ -1,7 +1,9 @@
-// From a counter block back to its number in the message (request 06), through the program replay: blocks that were counted up to, the registers
-// of sessions, and all arguments against the reference.
-use crate::arguments::{any_direction, any_key, any_m, Feed};
-use crate::counters::{any_iv, counter_block, NO_COUNTER};
+// From a counter block back to its number in the message (request 06), through the program replay: blocks that were
+// counted up to, the registers of sessions, and all arguments against the reference.
+use crate::arguments::{
+    any_direction, any_iv, any_key, any_m, any_number, any_place, under, Feed, NO_COUNTER,
+};
+use crate::counters::counter_block;
 use crate::hex::hex;
 use crate::reference::{counting, incremented, Mode};
 use crate::report::{equal, Outcome, Report};
@@ -55,19 +57,11 @@ fn answered(script: &Script, numbers: [usize; 3]) -> Outcome {
     equal(named, numbers, tally(script)?)
 }
 
-fn any_number(rng: &mut Rng) -> u128 {
-    u128::from_be_bytes(rng.block())
-}
-
-// Any IV, and those with the lowest m bits all 1, so that counting wraps at once, or all 0; the other bits are any, 1 or 0.
+// Any IV, and those with the lowest m bits all 1, so that counting wraps at once, or all 0; the other bits are any, 1
+// or 0.
 fn ivs(rng: &mut Rng, m: usize) -> [Block; IVS] {
     let (any, last) = (any_number(rng), counting(m));
     [any, any | last, any & !last, u128::MAX, 0].map(u128::to_be_bytes)
-}
-
-// The IV's upper bits, and the lowest m bits of a number.
-fn under(iv: Block, number: u128, m: usize) -> Block {
-    (u128::from_be_bytes(iv) & !counting(m) | number & counting(m)).to_be_bytes()
 }
 
 fn counted(rng: &mut Rng) -> Outcome {
@@ -131,7 +125,8 @@ fn led_back(rng: &mut Rng) -> Outcome {
     Ok(())
 }
 
-// A bit that counts is 2^bit increments ahead of the IV, or as many behind. Any other bit is refused, whatever the lowest m are.
+// A bit that counts is 2^bit increments ahead of the IV, or as many behind. Any other bit is refused, whatever the
+// lowest m are.
 fn one_bit(rng: &mut Rng) -> Outcome {
     let mut script = Script::new();
     for m in 1..=128 {
@@ -170,21 +165,7 @@ fn no_counter(rng: &mut Rng) -> Outcome {
 fn calls(rng: &mut Rng) -> Outcome {
     let mut script = Script::new();
     for _ in 0..CALLS {
-        let counts = 1 + rng.below(128);
-        let m = match rng.below(12) {
-            0 => *rng.pick(&NO_COUNTER),
-            1 => rng.below(300),
-            2 => rng.number() as usize,
-            _ => counts,
-        };
-        let (iv, any) = (any_iv(rng, counts), any_number(rng));
-        let block = match rng.below(6) {
-            0 => any.to_be_bytes(),
-            1 => iv,
-            // of the upper bits the lowest alone may differ
-            2 => under(iv, any, (counts + 1).min(128)),
-            _ => under(iv, any, counts),
-        };
+        let (m, iv, block) = any_place(rng);
         script.line(place_line(m, iv, block));
     }
     let numbers = tally(&script)?;
@@ -192,8 +173,8 @@ fn calls(rng: &mut Rng) -> Outcome {
     equal(|| format!("many of each number, {numbers:?}"), true, many)
 }
 
-// The registers that the program printed, refused feeds among them, are asked for in a second run. A place asked for between the
-// feeds changes nothing.
+// The registers that the program printed, refused feeds among them, are asked for in a second run. A place asked for
+// between the feeds changes nothing.
 fn registers(rng: &mut Rng) -> Outcome {
     let mut script = Script::new();
     let mut fed = vec![];

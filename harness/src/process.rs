@@ -1,4 +1,5 @@
-// A program as a process: standard input in, standard output back.
+// A program as a process: standard input in, standard output back. What it says on standard error is left to
+// harness/wrappers.
 use std::io::{Read, Write};
 use std::process::{Child, ChildStdin, Command, Stdio};
 use std::sync::mpsc::{channel, Receiver};
@@ -8,6 +9,7 @@ fn start(path: &str) -> Result<Child, String> {
     Command::new(path)
         .stdin(Stdio::piped())
         .stdout(Stdio::piped())
+        .stderr(Stdio::null())
         .spawn()
         .map_err(|why| format!("{path}: {why}"))
 }

@@ -1,6 +1,6 @@
-// Document 01, and the requests that changed it, once more: written from its text and not from the proved code, over the AES of
-// fips197.rs. A text is a vector of bits, and a unit is worked as the rules say it, with no thought of speed. What no document
-// publishes is compared with this, and the answers of the lists come from it.
+// Document 01, and the requests that changed it, once more: written from its text and not from the proved code, over
+// the AES of fips197.rs. A text is a vector of bits, and a unit is processed as the rules say, with no thought of
+// speed. What no document publishes is compared with this, and the answers of the lists come from it.
 use crate::direction::Direction;
 use crate::fips197::Schedule;
 
@@ -60,12 +60,12 @@ fn first_no(questions: &[(u8, bool)]) -> u8 {
     no.map_or(0, |&(number, _)| number)
 }
 
-// Question 6, where a text has at most so many bits.
+// Question 6, where a text has at most `most` bits.
 fn bits_there(input: &[u8], count: usize, most: usize) -> bool {
     count <= most && count <= 8 * input.len()
 }
 
-// Question 8, of so many bytes that would be written.
+// Question 8, of this many bytes that would be written.
 fn room_for(bytes: usize, size: usize, place: usize) -> bool {
     place <= size && bytes <= size - place
 }
@@ -88,8 +88,8 @@ pub fn counts(m: usize) -> u128 {
     }
 }
 
-// The block whose lowest m bits, as a number, are one higher modulo 2^m, and whose other bits are the same (SP 800-38A, appendix
-// B.1).
+// The block whose lowest m bits, as a number, are one higher modulo 2^m, and whose other bits are the same (SP 800-38A,
+// appendix B.1).
 pub fn incremented(block: [u8; 16], m: usize) -> [u8; 16] {
     let number = u128::from_be_bytes(block);
     (number & !counting(m) | number.wrapping_add(1) & counting(m)).to_be_bytes()
@@ -209,7 +209,7 @@ impl Session {
         self.schedule.rounds_ok() && self.mode.takes(self.n) && self.mode.takes_counter(self.m)
     }
 
-    // The units worked, and those of a feed of so many bits.
+    // The units done, and those of a feed of `count` bits.
     pub fn units_with(&self, count: usize) -> u128 {
         self.units as u128 + parts(count, self.n) as u128
     }
@@ -240,7 +240,7 @@ impl Session {
         self.feed_within(MAX_UNITS, input, count, out, place)
     }
 
-    // The same where a session works at most so many units.
+    // The same where a session does at most `limit` units.
     pub fn feed_within(
         &mut self,
         limit: u64,
@@ -343,7 +343,7 @@ pub fn decrypt(key: &[u8], block: &[u8; 16]) -> (u8, [u8; 16]) {
     (number, schedule.dec(block))
 }
 
-// What a feed of so many bits will cost: the number, the bytes and the runs.
+// What a feed of `count` bits will cost: the number, the bytes and the runs.
 pub fn forecast(mode: Mode, n: usize, count: usize) -> (u8, usize, usize) {
     if !mode.takes(n) {
         return (3, 0, 0);
@@ -476,7 +476,7 @@ fn steal_encrypt(session: &mut Session, text: &[bool]) -> Vec<bool> {
     cipher
 }
 
-// The block before the end is decrypted to (tail filled with 00) XOR X, which behind the tail has the bits of X.
+// The block before the end is decrypted to (tail filled with 00) XOR X, which after the tail has the bits of X.
 fn steal_decrypt(session: &mut Session, text: &[bool]) -> Vec<bool> {
     let (full, end) = text.split_at(last_part(text));
     let (front, before_end) = full.split_at(full.len() - 128);

@@ -1,8 +1,10 @@
-// Lists of calls through the program replay. Every answer, output byte, register, count and closing is compared with the
-// reference; what demand 3 says of a loss and of damage is then asked of the program's own texts.
-use crate::arguments::{any_direction, any_key, any_m, any_n, any_units, iv_for, Feed};
+// Lists of calls through the program replay. Every answer, output byte, register, count and closing is compared with
+// the reference; what demand 3 says of a loss and of damage is then asked of the program's own texts.
+use crate::arguments::{
+    any_direction, any_key, any_m, any_n, any_pad, any_padded, iv_for, one_thing_else,
+    session_by_hand, Block, Feed,
+};
 use crate::direction::Direction;
-use crate::fips197::Schedule;
 use crate::hex::{from_hex, hex, word};
 use crate::reference::{self, bits, bytes, parts, Mode, Session, MAX_BITS, MODES};
 use crate::report::{equal, Outcome, Report};
@@ -81,8 +83,8 @@ fn feeds(rng: &mut Rng) -> Outcome {
     happened(&script, false)
 }
 
-// What the lists are for came in them: feeds answered 9, feeds past the older release's units, sessions that were carried over and
-// that were not; under counters, and there alone, feeds answered 15.
+// What the lists are for came in them: feeds answered 9, feeds past the older release's units, sessions that were
+// carried over and that were not; under counters, and there alone, feeds answered 15.
 fn happened(script: &Script, counters: bool) -> Outcome {
     let not_carried = script.how_often("carry", "?");
     let least = [
@@ -130,8 +132,8 @@ fn counters(rng: &mut Rng) -> Outcome {
     happened(&script, true)
 }
 
-// A stream of units, fed to a decrypting session in random reads with some refused feeds between. The answer is the places of
-// the accepted reads in the script and their bits.
+// A stream of units, fed to a decrypting session in random reads with some refused feeds between. The answer is the
+// places of the accepted reads in the script and their bits.
 fn stream(
     rng: &mut Rng,
     script: &mut Script,
@@ -198,8 +200,8 @@ fn message(rng: &mut Rng, mode: Mode, least: usize) -> (usize, Vec<u8>, Vec<u8>,
     (n, key, iv, bits(&out)[..units * n].to_vec())
 }
 
-// Some units lost: past the loss, and past as many common units as the mode needs, the two texts agree, each cut in its own
-// way. In OFB and CTR the program has to do what the reference does, and no more is promised.
+// Some units lost: past the loss, and past as many common units as the mode needs, the two texts agree, each cut in its
+// own way. In OFB and CTR the program has to do what the reference does, and no more is promised.
 fn loss(rng: &mut Rng, mode: Mode) -> Outcome {
     let mut script = Script::new();
     let mut lists = vec![];
@@ -293,58 +295,34 @@ fn other_calls(rng: &mut Rng) -> Outcome {
 }
 
 fn pad_and_unpad(rng: &mut Rng, script: &mut Script) {
-    let n = 1 + rng.below(128);
-    let feed = Feed::any(rng, n);
-    let length = feed.out.len() + if rng.below(4) == 0 { 0 } else { 16 };
-    let fill = rng.number() as u8;
+    let pad = any_pad(rng);
     script.line(format!(
-        "pad {} {length} {} {fill:02x} {}",
-        feed.bits,
-        feed.place,
-        word(&feed.input)
+        "pad {} {} {} {:02x} {}",
+        pad.bits,
+        pad.out.len(),
+        pad.place,
+        pad.out.first().unwrap_or(&0),
+        word(&pad.input)
     ));
-    // any bytes, then 0 bits with a 1 among them at most, most often whole blocks
-    let length = rng.below(70);
-    let front = rng.below(length + 1);
-    let mut text = rng.bytes(front);
-    text.resize(length, 0);
-    if length > 0 {
-        let at = rng.below(text.len());
-        text[at] = 1u8.checked_shl(rng.below(9) as u32).unwrap_or(0);
-    }
-    let count = match rng.below(4) {
-        0 => rng.below(8 * text.len() + 3),
-        _ => 8 * text.len() / 128 * 128,
-    };
-    script.line(format!("unpad {count} {}", word(&text)));
+    let (text, bits) = any_padded(rng);
+    script.line(format!("unpad {bits} {}", word(&text)));
 }
 
 fn blocks(rng: &mut Rng, script: &mut Script) {
-    let key_length = *rng.pick(&[16, 24, 32, 16, 24, 32, 16, 0, 20]);
-    let key = rng.bytes(key_length);
-    let iv_length = *rng.pick(&[16, 16, 16, 16, 16, 0, 15]);
-    let iv = rng.bytes(iv_length);
-    let text_length = match rng.below(6) {
-        0 => rng.below(50),
-        _ => 16 * rng.below(6),
-    };
-    let text = rng.bytes(text_length);
-    let j = match rng.below(8) {
-        0 => usize::MAX,
-        1 => rng.number() as usize,
-        _ => rng.below(6),
-    };
-    let (key, iv, text) = (word(&key), word(&iv), word(&text));
+    let block = Block::any(rng);
+    let (key, iv, text) = (word(&block.key), word(&block.iv), word(&block.text));
+    let j = block.j;
     script.line(format!("neighbour {iv} {text} {j}"));
-    let (length, place) = (rng.below(48), rng.below(24));
-    let fill = rng.number() as u8;
     script.line(format!(
-        "block {key} {iv} {text} {j} {length} {place} {fill:02x}"
+        "block {key} {iv} {text} {j} {} {} {:02x}",
+        block.out.len(),
+        block.place,
+        block.out.first().unwrap_or(&0)
     ));
 }
 
-// What the lines say of a feed: the number, the bytes written and the runs. It was made twice, into bytes of 00 and of ff: a byte
-// that it wrote is the same in both outputs, and one that it left is not.
+// What the lines say of a feed: the number, the bytes written and the runs. It was made twice, into bytes of 00 and of
+// ff: a byte that it wrote is the same in both outputs, and one that it left is not.
 fn said(first: &str, second: &str) -> [usize; 3] {
     let words: Vec<&str> = first.split(' ').collect();
     let again: Vec<&str> = second.split(' ').collect();
@@ -360,8 +338,8 @@ fn said(first: &str, second: &str) -> [usize; 3] {
     ]
 }
 
-// A forecast before each feed. Then the program's own lines are compared: an accepted feed wrote and ran what was forecast, a
-// refused one wrote and ran nothing, and one whose forecast was refused is refused.
+// A forecast before each feed. Then the program's own lines are compared: an accepted feed wrote and ran what was
+// forecast, a refused one wrote and ran nothing, and one whose forecast was refused is refused.
 fn forecasts(rng: &mut Rng) -> Outcome {
     let mut script = Script::new();
     let mut places = vec![];
@@ -445,58 +423,11 @@ fn comparisons(rng: &mut Rng) -> Outcome {
     script.run().map(|_| ())
 }
 
-// A session with anything in its fields, though most have what AES and the mode take.
-fn any_session(rng: &mut Rng) -> Session {
-    let mode = *rng.pick(&MODES);
-    let mut session = Session {
-        mode,
-        direction: any_direction(rng),
-        n: any_n(rng, mode),
-        m: any_m(rng, mode),
-        schedule: Schedule {
-            rounds: *rng.pick(&[10, 12, 14]),
-            keys: rng.bytes(240).try_into().expect("240 bytes"),
-        },
-        register: rng.block(),
-        units: 0,
-        closed: rng.below(8) == 0,
-        runs: 0,
-    };
-    match rng.below(10) {
-        0 => session.schedule.rounds = *rng.pick(&[0, 1, 9, 11, 13, 15, 16, 255, usize::MAX]),
-        1 => session.schedule.rounds = rng.number() as usize >> rng.below(64),
-        2 => session.n = rng.number() as usize >> rng.below(64),
-        3 => session.m = rng.number() as usize >> rng.below(64),
-        _ => {}
-    }
-    session.units = any_units(rng, session.m);
-    session
-}
-
-// The same session but for one thing, or nothing.
-fn one_thing_else(rng: &mut Rng, session: &Session) -> Session {
-    let mut other = session.clone();
-    match rng.below(10) {
-        0 => other.mode = *rng.pick(&MODES),
-        1 => other.direction = any_direction(rng),
-        2 => other.n ^= 1 << rng.below(64),
-        3 => other.m ^= 1 << rng.below(64),
-        4 => other.schedule.rounds = *rng.pick(&[10, 12, 14, 15, 16, usize::MAX]),
-        // of 10 and 12 rounds the last key bytes are not compared
-        5 => other.schedule.keys[rng.below(240)] ^= 1 << rng.below(8),
-        6 => other.register[rng.below(16)] ^= 1 << rng.below(8),
-        7 => other.units = rng.number(),
-        8 => other.closed ^= true,
-        _ => {}
-    }
-    other
-}
-
 // Sessions whose fields no opening gives, with as many key bytes as the line has.
 fn by_hand(rng: &mut Rng) -> Outcome {
     let mut script = Script::new();
     for _ in 0..LISTS {
-        let mut session = any_session(rng);
+        let mut session = session_by_hand(rng);
         let any = rng.below(241);
         let count = *rng.pick(&[240, 240, 240, 208, 176, any, 0]);
         session.schedule.keys[count..].fill(0);

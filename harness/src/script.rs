@@ -129,8 +129,8 @@ impl Script {
         self.crossed += (before <= OLDER_MAX_UNITS && after > OLDER_MAX_UNITS) as usize;
     }
 
-    // Some feeds, refused ones among them. Before some the count of units is set, often close to where feeds end, before some the
-    // session is carried over, and before some it is kept or compared.
+    // Some feeds, refused ones among them. Before some the count of units is set, often close to where feeds end,
+    // before some the session is carried over, and before some it is kept or compared.
     pub fn some_feeds(&mut self, rng: &mut Rng, n: usize) {
         for _ in 0..3 + rng.below(9) {
             match rng.below(10) {

@@ -1,10 +1,11 @@
-// Sessions through the static library: against OpenSSL's modes, and against the reference for what OpenSSL does not have.
+// Sessions through the static library: against OpenSSL's modes, and against the reference for what OpenSSL does not
+// have.
 use crate::arguments::{iv_for, Feed};
 use crate::direction::Direction;
 use crate::fips197::Schedule;
 use crate::hex::hex;
 use crate::openssl::Cipher;
-use crate::rattle;
+use crate::rattle::{self, NO_MODE};
 use crate::reference::{self, parts, Mode, MAX_UNITS, MODES};
 use crate::report::{equal, Outcome, Report};
 use crate::rng::Rng;
@@ -59,7 +60,7 @@ pub fn run(report: &mut Report) {
         last_units,
     );
     report.test(
-        "a number that is no mode is answered 12: opened the refused session, fed nothing changed",
+        &format!("a number that is no mode is answered {NO_MODE}: opened the refused session, fed nothing changed"),
         no_mode,
     );
 }
@@ -138,7 +139,7 @@ fn counter(rng: &mut Rng) -> Outcome {
     Ok(())
 }
 
-// A call's numbers, every field of the session, and the output.
+// A call's numbers, every field of the session, as a call writes it, and the output.
 pub fn same<Numbers: PartialEq + std::fmt::Debug>(
     input: impl Fn() -> String,
     expected: (Numbers, &reference::Session, &[u8]),
@@ -146,7 +147,7 @@ pub fn same<Numbers: PartialEq + std::fmt::Debug>(
 ) -> Outcome {
     let (numbers, session, out) = expected;
     equal(&input, numbers, came.0)?;
-    let decrypting = session.direction == Direction::Decrypt;
+    let decrypting = (session.direction == Direction::Decrypt) as u8;
     equal(
         &input,
         (session.mode as usize, decrypting, session.n, session.m),
@@ -160,8 +161,8 @@ pub fn same<Numbers: PartialEq + std::fmt::Debug>(
     )?;
     equal(
         &input,
-        (session.units, session.closed),
-        (came.1.units, came.1.closed),
+        (session.units, session.closed as u8, [0; 6]),
+        (came.1.units, came.1.closed, came.1.spare),
     )?;
     equal(&input, hex(out), hex(came.2))
 }
@@ -193,15 +194,7 @@ fn as_reference(rng: &mut Rng, mode: Mode) -> Outcome {
                 let fed = theirs.feed(&feed.input, feed.bits, &mut expected, feed.place);
                 let came = ours.feed(&feed.input, feed.bits, &mut out, feed.place);
                 same(
-                    || {
-                        format!(
-                            "{}, {} bits of {} to {}",
-                            opening(),
-                            feed.bits,
-                            hex(&feed.input),
-                            feed.place
-                        )
-                    },
+                    || format!("{}, {}", opening(), feed.named()),
                     (fed, &theirs, &expected),
                     (came, &ours, &out),
                 )?;
@@ -248,7 +241,7 @@ fn no_mode(rng: &mut Rng) -> Outcome {
         ] {
             same(
                 || format!("mode {mode}"),
-                (12, &refused, &[]),
+                (NO_MODE, &refused, &[]),
                 (number, &session, &[]),
             )?;
         }
@@ -259,7 +252,7 @@ fn no_mode(rng: &mut Rng) -> Outcome {
         let fed = session.feed(&iv, 128, &mut out, 0);
         equal(
             || format!("mode {mode}"),
-            ((12, 0), &before, [9; 16]),
+            ((NO_MODE, 0), &before, [9; 16]),
             (fed, &session, out),
         )?;
     }

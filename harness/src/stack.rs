@@ -1,4 +1,5 @@
-// How much of the stack a call takes: it runs on a stack of its own, painted before, and the paint that is gone is counted.
+// How much of the stack a call takes: it runs on a stack of its own, painted before, and the paint that is gone is
+// counted.
 use crate::rattle::Session;
 use crate::reference::MAX_BITS;
 use crate::report::{Outcome, Report};
@@ -105,7 +106,7 @@ fn stacks(mode: usize, n: usize, decrypting: bool) -> (usize, usize) {
     let mut out = vec![0; MAX_BITS / 8];
     let mut numbers = [255; 2];
     let opened = used(&mut || numbers[0] = open().0);
-    let fed = used(&mut || numbers[1] = session.feed(&input, MAX_BITS, &mut out, 0).0);
+    let fed = used(&mut || numbers[1] = session.feed_bare(&input, MAX_BITS, &mut out, 0).0);
     assert!(numbers == [0, 0]);
     (opened, fed)
 }

@@ -1,18 +1,18 @@
-// Ciphertext stealing through the program replay: messages against OpenSSL's CBC-CTS, all arguments against the reference. What
-// request 03 says of a loss is then asked of the program's own texts.
-use crate::arguments::{any_direction, any_key};
-use crate::cost;
+// Ciphertext stealing through the program replay: messages against OpenSSL's CBC-CTS, all arguments against the
+// reference. What request 03 says of a loss is then asked of the program's own texts.
+use crate::arguments::{any_key, Message, LEAST};
+use crate::cost::fastest;
 use crate::direction::Direction;
 use crate::hex::{from_hex, hex, word};
 use crate::openssl::Cipher;
+use crate::rattle;
 use crate::reference::{parts, MAX_BITS};
 use crate::report::{equal, Outcome, Report};
 use crate::rng::Rng;
 use crate::script::Script;
 use crate::sessions::KEY_LENGTHS;
 
-// The bytes of the shortest message and of the largest.
-const LEAST: usize = 17;
+// The bytes of the largest message.
 const MOST: usize = MAX_BITS / 8;
 
 // Up to here every length is tried.
@@ -22,10 +22,9 @@ const LONG_MESSAGES: usize = 24;
 const CALLS: usize = 3000;
 const PAIRS: usize = 300;
 
-// What the cost is measured by: the program, how often it works its message in both directions, and the smaller message's bytes.
-const PROGRAM: &str = "target/bin/stealing_cost";
-const TURNS: u32 = 400;
-const RUNS: usize = 5;
+// What the cost is measured by: the key, the turns, and the smaller message's bytes.
+const KEY: &[u8] = b"chicken teriyaki";
+const TURNS: usize = 50;
 const SMALLER: usize = 4096;
 
 pub fn run(report: &mut Report) {
@@ -118,45 +117,18 @@ fn long_messages(rng: &mut Rng) -> Outcome {
     script.run().map(|_| ())
 }
 
-// Some bytes, of this length or in few cases of another.
-fn mostly(rng: &mut Rng, length: usize) -> Vec<u8> {
-    let length = match rng.below(16) {
-        0 => rng.below(2 * length),
-        _ => length,
-    };
-    rng.bytes(length)
-}
-
-// Most calls are accepted, some break one question or more.
 fn call(rng: &mut Rng, script: &mut Script) {
-    let length = LEAST + rng.below(80);
-    let key_length = *rng.pick(&KEY_LENGTHS);
-    let (key, iv) = (mostly(rng, key_length), mostly(rng, 16));
-    let spare = length + rng.below(3) * rng.below(20);
-    let input = mostly(rng, spare);
-    let bits = match rng.below(16) {
-        0 => rng.below(8 * length),
-        1 => 8 * rng.below(LEAST),
-        2 => 8 * length + rng.below(8),
-        3 => rng.number() as usize,
-        _ => 8 * length,
-    };
-    let place = match rng.below(16) {
-        0 => rng.number() as usize,
-        1 => usize::MAX - rng.below(length),
-        _ => rng.below(20),
-    };
-    let size = match rng.below(16) {
-        0 => rng.below(length + 20),
-        _ => place.min(20) + length + rng.below(3) * rng.below(20),
-    };
-    let (direction, fill) = (any_direction(rng), rng.number() as u8);
+    let message = Message::any(rng);
     script.line(format!(
-        "steal {} {} {} {bits} {size} {place} {fill:02x} {}",
-        direction.letter(),
-        word(&key),
-        word(&iv),
-        word(&input)
+        "steal {} {} {} {} {} {} {:02x} {}",
+        message.direction.letter(),
+        word(&message.key),
+        word(&message.iv),
+        message.bits,
+        message.out.len(),
+        message.place,
+        message.out.first().unwrap_or(&0),
+        word(&message.input)
     ));
 }
 
@@ -174,8 +146,8 @@ fn calls(rng: &mut Rng) -> Outcome {
     )
 }
 
-// Two ciphertexts under one key: the second has `inserted` blocks of its own in place of `lost` blocks of the first, and may end
-// earlier. The first is decrypted by the line `at` of the script, and the second by the next.
+// Two ciphertexts under one key: the second has `inserted` blocks of its own in place of `lost` blocks of the first,
+// and may end earlier. The first is decrypted by the line `at` of the script, and the second by the next.
 struct Pair {
     first: usize,
     lost: usize,
@@ -184,7 +156,7 @@ struct Pair {
     at: usize,
 }
 
-// Behind the change there is a common block at least that is neither the run's first nor one of a message's last two.
+// After the change there is at least one common block that is neither the run's first nor one of a message's last two.
 fn pair(rng: &mut Rng, script: &mut Script) -> Result<Pair, String> {
     let (key, iv, other_iv) = (any_key(rng), rng.bytes(16), rng.bytes(16));
     let full = 10 + rng.below(16);
@@ -223,8 +195,8 @@ fn text(line: &str) -> Vec<u8> {
 }
 
 impl Pair {
-    // A run of `count` blocks that begins at block i of the one text and at block j of the other is the same in both, its
-    // first `but` blocks and the last two of either text aside.
+    // A run of `count` blocks that begins at block i of the one text and at block j of the other is the same in both,
+    // its first `but` blocks and the last two of either text aside.
     fn common(
         &self,
         texts: (&[u8], &[u8]),
@@ -292,18 +264,30 @@ fn whole_blocks(rng: &mut Rng) -> Outcome {
     script.run().map(|_| ())
 }
 
-// The message, and what the program prints for it.
-fn measured(length: usize) -> (Vec<u8>, String) {
-    (vec![b'.'; length], format!(" 0 {}\n", "2e".repeat(16)))
+// Encrypts a message of `length` bytes, and decrypts it again.
+fn there_and_back(length: usize) -> impl FnMut() {
+    let text = vec![b'.'; length];
+    let (mut cipher, mut plain) = (vec![0; length], vec![0; length]);
+    move || {
+        let steal = |direction, input: &[u8], out: &mut [u8]| {
+            rattle::steal(direction, KEY, &[0; 16], input, 8 * length, out, 0)
+        };
+        assert!(steal(Direction::Encrypt, &text, &mut cipher) == 0);
+        assert!(steal(Direction::Decrypt, &cipher, &mut plain) == 0);
+        assert!(plain == text);
+    }
 }
 
-// The largest message has sixteen times the smaller one's bytes, and may take at most 24 times as long; work that grew with the
-// length's square would take 256 times as long.
+// The largest message has sixteen times the smaller one's bytes, and may take at most 24 times as long; work that grew
+// with the length's square would take 256 times as long.
 fn linear() -> Outcome {
-    let best = cost::best(PROGRAM, RUNS, [measured(SMALLER), measured(MOST)])?;
-    let [smaller, most] = best.map(|time| (time / TURNS).as_nanos());
-    println!("nanoseconds to encrypt and decrypt at most: {smaller} of {SMALLER} bytes, {most} of {MOST}");
-    if 2 * most <= 3 * smaller * (MOST / SMALLER) as u128 {
+    let best = fastest(
+        TURNS,
+        [&mut there_and_back(SMALLER), &mut there_and_back(MOST)],
+    );
+    let [smaller, most] = best.map(|seconds| seconds * 1e9);
+    println!("nanoseconds to encrypt and decrypt at most: {smaller:.0} of {SMALLER} bytes, {most:.0} of {MOST}");
+    if 2.0 * most <= 3.0 * smaller * (MOST / SMALLER) as f64 {
         Ok(())
     } else {
         Err(format!("{smaller} and {most} ns"))

@@ -1,5 +1,5 @@
-// Debian's libtomcrypt, a portable implementation in C. It has no CFB with short segments. Its counters in CTR are of whole bytes;
-// they count up behind each block and wrap without a word.
+// Debian's libtomcrypt, a portable implementation in C. It has no CFB with short segments. Its counters in CTR are of
+// whole bytes; they count up after each block and wrap without a word.
 use crate::direction::Direction;
 use std::os::raw::{c_char, c_int, c_uchar, c_ulong, c_void};
 use std::sync::Once;
@@ -35,7 +35,7 @@ extern "C" {
     ) -> c_int;
 }
 
-// The other starts are declared alike, and so are the functions that work a text.
+// The other starts are declared alike, and so are the functions that process a text.
 macro_rules! starts {
     ($($name:ident)*) => {
         extern "C" {
@@ -81,7 +81,8 @@ pub struct Cipher {
 }
 
 impl Cipher {
-    // None where the library has no such mode. The names are those of openssl::Cipher, and m is the counter's bits in CTR.
+    // None where the library has no such mode. The names are those of openssl::Cipher, and m is the counter's bits in
+    // CTR.
     pub fn new(
         mode: &str,
         m: usize,

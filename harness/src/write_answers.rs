@@ -1,6 +1,6 @@
-// Writes the answers `#>` of list files anew, as the reference gives them; what is published, and all else, stays as it is. The exit
-// status is 1 where a published answer is not the reference's, where an answer has no command before it, and where a file cannot be
-// read or written.
+// Writes the answers `#>` of list files anew, as the reference gives them; what is published, and all else, stays as it
+// is. The exit status is 1 where a published answer is not the reference's, where an answer has no command before it,
+// and where a file cannot be read or written.
 #![allow(dead_code)]
 mod answers;
 mod direction;

@@ -18,16 +18,17 @@ pub record KeyExpands (key : List ℕ) : Type 0 where
 unfoldable pub AcceptedExpands : Type 0
 AcceptedExpands = (key : List ℕ) → Bytes key → keyOk key ≡ true → KeyExpands key
 
--- An accepted key gives a block cipher: under it each of the two calls takes blocks to blocks, and they undo each other. (Document 01,
--- "two facts about the block cipher only"; `UndoEachOther` says it of Enc and Dec under given round keys.)
+-- An accepted key gives a block cipher: under it each of the two calls takes blocks to blocks, and they undo each
+-- other. (Document 01, "two facts about the block cipher only"; `UndoEachOther` says it of Enc and Dec under given
+-- round keys.)
 unfoldable pub KeyGivesCipher : Type 0
 KeyGivesCipher = (key : List ℕ) → Bytes key → keyOk key ≡ true → BlockCipher (encrypted key) (decrypted key)
 
 unfoldable pub KeyLength : ℕ → Type 0
 KeyLength n = (n ≡ 16) ⊎ (n ≡ 24) ⊎ (n ≡ 32)
 
--- The number, which `expand`, `encrypt` and `decrypt` all answer: 0 exactly where the key is 16, 24 or 32 bytes long, else 1. With 1 come 0
--- rounds and 240 zero bytes, or 16 zero bytes.
+-- The number, which `expand`, `encrypt` and `decrypt` all answer: 0 exactly where the key is 16, 24 or 32 bytes long,
+-- else 1. With 1 come 0 rounds and 240 zero bytes, or 16 zero bytes.
 pub record CallsAnswer : Type 0 where
   pub accepted : (key : List ℕ) → (keyNumber key ≡ 0) ↔ KeyLength (length key)
   pub refused : (key : List ℕ) → (keyNumber key ≡ 1) ↔ (KeyLength (length key) → ⊥)

@@ -1,5 +1,5 @@
-// The public calls: expand a key, and encrypt or decrypt one block under a key. A key that is not 16, 24 or 32 bytes long is
-// refused with number 1 and zeros.
+// The public calls: expand a key, and encrypt or decrypt one block under a key. A key that is not 16, 24 or 32 bytes
+// long is refused with number 1 and zeros.
 ghost use mathlib.Core.Path.{_≡_};
 ghost use Rattle.cipher.specs.Cipher.{Enc, Dec};
 ghost use Rattle.aes.specs.Calls.{keyOk, encrypted, decrypted, Expanded, BlockAnswer};

@@ -1,5 +1,5 @@
--- A block as a number and back: each number below 256^k is k bytes in exactly one way, and the counter's next block is a block.
--- Assumes nothing.
+-- A block as a number and back: each number below 256^k is k bytes in exactly one way, and the counter's next block is
+-- a block. Assumes nothing.
 use mathlib.Core.Path.{_≡_, refl, sym, ap, ap₂, _∙_}
 use mathlib.Core.List.{List, [], _∷_}
 use Prim.Native.Nat.{ℕ, zero, suc, _+_, _*_, _/_, _%_, _^_, _<_}

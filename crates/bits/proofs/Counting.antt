@@ -1,4 +1,5 @@
--- The counter's increment, on numbers: the bits above the lowest m stay, and the count goes on byte by byte. Assumes nothing.
+-- The counter's increment, on numbers: the bits above the lowest m stay, and the count goes on byte by byte. Assumes
+-- nothing.
 use mathlib.Core.Path.{_≡_, sym, _∙_}
 use mathlib.Core.List.{List}
 use Prim.Native.Nat.{ℕ, _+_, _-_, _*_, _/_, _%_, _^_, _<_, _≤_}

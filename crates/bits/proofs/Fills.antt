@@ -1,5 +1,5 @@
--- A list into which a loop writes another, one store a turn: after i turns it holds the other's first i elements, at a place or at
--- its front. Assumes nothing.
+-- A list into which a loop writes another, one store a turn: after i turns it holds the other's first i elements, at a
+-- place or at its front. Assumes nothing.
 use mathlib.Core.Path.{_≡_, refl, sym, ap, ap₂, _∙_}
 use mathlib.Core.List.{List, [], _∷_, _++_, append-nil}
 use Prim.Native.Nat.{ℕ, zero, suc, _+_, _≤_, _<_}
@@ -16,7 +16,7 @@ pub pasted-next : (d : List ℕ) (at : ℕ) (t : List ℕ) (i : ℕ) {l : List �
 pasted-next d at t i e f hd ht =
     ap₂ (λ (m : List ℕ) (w : ℕ). set m (at + i) w) e f ∙ paste-suc d at t i 0 hd ht ∙ ap (paste d at t) (sym (add-one i))
 
--- two lists one behind the other fill a list that has just the room
+-- two lists one after the other fill a list that has just enough room
 pub pasted-both : (k : ℕ) (d a b : List ℕ) → length d ≡ k + k → length a ≡ k → length b ≡ k → paste (paste d 0 a k) k b k ≡ a ++ b
 pasted-both k d a b hd ha hb =
     let front : paste d 0 a k ≡ a ++ drop k d = rw (zero-add, take-all k a (le-of-eq ha)) in

@@ -96,7 +96,7 @@ packTo-last k n x h =
     ∙ ap (λ (m : ℕ). byteOf (drop (n / 8 * 8) (take m x))) all
     ∙ rw drop-take (keep (drop (n / 8 * 8) x) (n % 8) (omega arith))
 
--- the last byte again, cleared behind the text's bits
+-- the last byte again, cleared after the text's bits
 pub store-last : (k n : ℕ) (x : List Bool) {l : List ℕ} {v : ℕ} → l ≡ packTo k (take (n / 8 * 8 + 8) x)
     → v ≡ getD l (n / 8) 0 / 2 ^ (8 - n % 8) * 2 ^ (8 - n % 8) → n / 8 < k → set l (n / 8) v ≡ packTo k (take n x)
 store-last k n x {l} e f h =

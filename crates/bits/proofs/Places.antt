@@ -88,7 +88,7 @@ module _ (old : List ℕ) (first r : ℕ) (room : first * 8 + r ≤ length old *
   all-bits : (x : List Bool) → take (first * 8 + r) (bits old) ++ x ≡ bits (take first old) ++ (stay old first r ++ x)
   all-bits x = rw (take-add, take-bits, drop-bits, append-assoc)
 
-  -- the bytes before, then those that are written, then those behind
+  -- the bytes before, then those that are written, then those after
   putBits-is : Bytes old → (x : List Bool)
       → putBits old (first * 8 + r) x ≡ paste old first (packTo (bytesFor (r + length x)) (stay old first r ++ x)) (bytesFor (r + length x))
   unfolding putBits

@@ -1,4 +1,4 @@
--- A register's shift as a window over the register and the segment behind it. Assumes nothing.
+-- A register's shift as a window over the register and the segment after it. Assumes nothing.
 use mathlib.Core.Path.{_≡_, sym}
 use mathlib.Core.List.{List, _++_}
 use Prim.Native.Nat.{ℕ, _+_, _≤_}

@@ -1,5 +1,5 @@
--- A rule for all numbers below n, and the rule of a table at each of its entries, each from one test that antt computes; and the
--- rule of a list that a loop fills, one store a turn. Assumes nothing.
+-- A rule for all numbers below n, and the rule of a table at each of its entries, each from one test that antt
+-- computes; and the rule of a list that a loop fills, one store a turn. Assumes nothing.
 use mathlib.Core.Path.{_≡_, refl}
 use mathlib.Core.Bool.{Bool, true, false}
 use mathlib.Core.List.{List, [], _∷_}

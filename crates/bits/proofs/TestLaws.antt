@@ -1,5 +1,5 @@
--- A chain of tests `n == a || n == b || n == d`: what is known of the first two where their ways meet, what the third adds, and
--- what holds of the numbers that pass. Assumes nothing.
+-- A chain of tests `n == a || n == b || n == d`: what is known of the first two where their ways meet, what the third
+-- adds, and what holds of the numbers that pass. Assumes nothing.
 use mathlib.Core.Path.{_≡_, refl, sym, _∙_}
 use mathlib.Core.Bool.{Bool, true, false, cond}
 use Prim.Native.Nat.{ℕ}

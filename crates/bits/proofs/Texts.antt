@@ -1,5 +1,5 @@
--- Bytes as bits and bits as bytes: lengths, the two ways round, whole bytes at a seam, and the spare bits of the last byte.
--- Assumes nothing.
+-- Bytes as bits and bits as bytes: lengths, the two ways round, whole bytes at a seam, and the spare bits of the last
+-- byte. Assumes nothing.
 use mathlib.Core.Path.{_≡_, refl, sym, ap, ap₂, _∙_}
 use mathlib.Core.Bool.{Bool, true, false}
 use mathlib.Core.List.{List, [], _∷_, _++_, append-assoc}
@@ -296,7 +296,7 @@ bytesFor-mono : (m n : ℕ) → bytesFor m ≤ bytesFor (m + n)
 unfolding bytesFor
 bytesFor-mono m n = omega arith
 
--- the bits of a text's bytes begin with the text, whatever bytes come behind
+-- the bits of a text's bytes begin with the text, whatever bytes follow
 pub take-bits-packed : (x : List Bool) (rest : List ℕ) → take (length x) (bits (pack x ++ rest)) ≡ x
 take-bits-packed x rest =
     rw bits-append
@@ -309,7 +309,7 @@ pub drop-front : (p o : List ℕ) {n m : ℕ} → length p ≡ n → n ≤ m →
 drop-front p o {n} {m} e h =
     rw (e, add-sub-of-le h) at (drop-append-add p (drop n o) (m - n) ∙ drop-drop (m - n) n o)
 
--- what a writing loop does: behind the text x, of any length, comes the text s
+-- what a writing loop does: after the text x, of any length, comes the text s
 pub put-after : (x s : List Bool) (o : List ℕ)
     → putBits (pack x ++ drop (bytesFor (length x)) o) (length x) s ≡ pack (x ++ s) ++ drop (bytesFor (length x + length s)) o
 unfolding putBits

@@ -1,5 +1,5 @@
--- XOR is a commutative group in which each number is its own inverse; it keeps widths, and works on the low digits and on
--- the rest apart. Assumes nothing.
+-- XOR is a commutative group in which each number is its own inverse; it keeps widths, and works on the low digits and
+-- on the rest separately. Assumes nothing.
 use mathlib.Core.Path.{_≡_, refl, sym, ap, ap₂, _∙_}
 use Prim.Native.Nat.{ℕ, zero, suc, _+_, _*_, _/_, _%_, _^_, _<_}
 use native.Mathlib.Nat.{zero-lt-suc, mod-lt, le-of-suc-le-suc, not-suc-le-zero}
@@ -79,7 +79,7 @@ assoc a b c = bit-assoc a b c
 pub left-comm : (a b c : ℕ) → xor a (xor b c) ≡ xor b (xor a c)
 left-comm a b c = sym (assoc a b c) ∙ ap (λ (x : ℕ). xor x c) (comm a b) ∙ assoc b a c
 
--- sums of several terms are sorted alike by these three
+-- sums of several terms are put in the same order by these three
 pub ruleset sorted = (assoc, comm, left-comm)
 
 -- what is added twice is gone

@@ -1,5 +1,5 @@
--- XOR of texts and of lists of bytes: lengths, parts, commutativity, and that the same key twice is gone. The bits of an XOR
--- are the XOR of the bits. Assumes nothing.
+-- XOR of texts and of lists of bytes: lengths, parts, commutativity, and that the same key twice is gone. The bits of
+-- an XOR are the XOR of the bits. Assumes nothing.
 use mathlib.Core.Path.{_≡_, refl, sym, ap, ap₂, _∙_}
 use mathlib.Core.Bool.{Bool, true, false}
 use mathlib.Core.List.{List, [], _∷_, _++_}

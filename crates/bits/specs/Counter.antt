@@ -13,7 +13,8 @@ unfoldable pub numberBytes : ℕ → ℕ → List ℕ
 numberBytes zero x = []
 numberBytes (suc k) x = x / 256 ^ k % 256 ∷ numberBytes k x
 
--- SP 800-38A appendix B.1, the standard incrementing function: 1 is added to the lowest m bits, modulo 2^m, and the others stay.
+-- SP 800-38A appendix B.1, the standard incrementing function: 1 is added to the lowest m bits, modulo 2^m, and the
+-- others stay.
 unfoldable pub plusOne : ℕ → ℕ → ℕ
 plusOne m x = x / 2 ^ m * 2 ^ m + (x % 2 ^ m + 1) % 2 ^ m
 

@@ -35,7 +35,7 @@ unfoldable pub packTo : ℕ → List Bool → List ℕ
 packTo zero x = []
 packTo (suc k) x = byteOf x ∷ packTo k (drop 8 x)
 
--- How many bytes so many bits need, rounded up.
+-- How many bytes n bits need, rounded up.
 unfoldable pub bytesFor : ℕ → ℕ
 bytesFor n = (n + 7) / 8
 
@@ -56,7 +56,7 @@ xorBits [] ys = []
 xorBits (x ∷ xs) [] = []
 xorBits (x ∷ xs) (y ∷ ys) = xorBit x y ∷ xorBits xs ys
 
--- CFB, SP 800-38A section 6.3: the register's first bits leave, as many as the segment has, and the segment enters behind.
+-- CFB, SP 800-38A section 6.3: as many of the register's first bits leave as the segment has, and it enters at the end.
 unfoldable pub shiftIn : List Bool → List Bool → List Bool
 shiftIn r c = drop (length c) r ++ c
 

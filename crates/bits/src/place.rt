@@ -9,8 +9,8 @@ ghost use lib.ListN.{length, getD, take, drop};
 ghost use lib.Seq.{paste};
 ghost use Rattle.bits.specs.Texts.{bits, packTo, putBits};
 
-// Writes the segment's first n bits from bit `at` on; the spare bits of the last byte become 0. A whole block at a byte's place is
-// copied, as in `read`.
+// Writes the segment's first n bits from bit `at` on; the spare bits of the last byte become 0. A whole block at a
+// byte's place is copied, as in `read`.
 pub fn put_bits(out: &mut [u8], at: usize, segment: [u8; 16], n: usize)
     requires { ⌜ (n ≤ 128) × (at + n ≤ length (now out) * 8) ⌝ }
     ensures { λ _. ⌜ now (out .exit) ≡ putBits (now (out .entry)) at (take n (bits segment)) ⌝ }
@@ -44,7 +44,7 @@ pub fn put_block(out: &mut [u8], first: usize, block: [u8; 16])
     }
 }
 
-// Whole bytes from `first` on: the first r bits there stay, and the segment comes behind them. Gives the byte in which the next one
+// Whole bytes from `first` on: the first r bits there stay; the segment follows. Gives the byte in which the next one
 // would begin.
 fn put_bytes(out: &mut [u8], first: usize, r: u32, segment: [u8; 16], count: usize) -> u8
     requires { ⌜ (r < 8) × (first + count ≤ length (now out)) ⌝ }

@@ -6,7 +6,7 @@ ghost use mathlib.Core.List.{_++_};
 ghost use lib.ListN.{take, drop};
 ghost use Rattle.bits.specs.Texts.{bits, packTo};
 
-// The register's first n bits leave, and the segment's first n bits enter behind.
+// The register's first n bits leave, and the segment's first n bits enter at the end.
 pub fn shift_in(register: [u8; 16], segment: [u8; 16], n: usize) -> [u8; 16]
     ensures { λ r. ⌜ r ≡ packTo 16 (drop n (bits register) ++ take n (bits segment)) ⌝ }
 {

@@ -11,7 +11,7 @@ pub fn two_bytes(high: u8, low: u8, r: u32) -> u8
     ((pair >> (8 - r)) % 256) as u8
 }
 
-// The first k bits of a byte, with 0 bits behind them.
+// The first k bits of a byte, with 0 bits after them.
 pub fn first_bits(b: u8, k: u32) -> u8
     requires { ⌜ k ≤ 8 ⌝ }
     ensures { λ r. ⌜ r ≡ b / 2 ^ (8 - k) * 2 ^ (8 - k) ⌝ }

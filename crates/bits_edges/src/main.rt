@@ -1,5 +1,5 @@
-// Calls each function of `bits` and `counter` at its edges and prints what it gave. The file `stdout` has what the definitions give; expected.py,
-// which shares nothing with the crate, writes it.
+// Calls each function of `bits` and `counter` at its edges and prints what it gave. The file `stdout` has what the
+// definitions give; expected.py, which shares nothing with the crate, writes it.
 use libc::STDOUT_FILENO;
 ghost use Prim.Native.Nat.{_≤_, _<_};
 

@@ -1,5 +1,5 @@
--- A table holds a rule when one computed test over its entries says so, when it is composed of two that do, or when a loop has filled
--- it. Assumes nothing.
+-- A table holds a rule when one computed test over its entries says so, when it is composed of two that do, or when a
+-- loop has filled it. Assumes nothing.
 use mathlib.Core.Path.{_≡_, ap, _∙_}
 use mathlib.Core.List.{List}
 use Prim.Native.Nat.{ℕ, _+_, _≤_, _<_}

@@ -50,7 +50,8 @@ fn unaffine_table() -> [u8; 256]
     table
 }
 
-// The inverses in the field. SubBytes of a byte is the affine map of its inverse, so with that map undone the S-box gives it.
+// The inverses in the field. SubBytes of a byte is the affine map of its inverse, so with that map undone the S-box
+// gives it.
 fn inverse_table() -> [u8; 256]
     ensures { λ r. ⌜ Tabulates inverse r ⌝ }
 {
@@ -77,8 +78,8 @@ fn composed(outer: &[u8; 256], inner: &[u8; 256]) -> [u8; 256]
     table
 }
 
-// The table of InvSubBytes, by its formula: the affine map undone, then the inverse. Each step is a loop of its own over all bytes,
-// since the compiler then undoes the map for many of them at once.
+// The table of InvSubBytes, by its formula: the affine map undone, then the inverse. Each step is a loop of its own
+// over all bytes, since the compiler then undoes the map for many of them at once.
 pub fn inv_sbox() -> [u8; 256]
     ensures { λ r. ⌜ Tabulates invSubByte r ⌝ }
 {

@@ -1,4 +1,4 @@
--- Lists of calls joined and parted, their last state, what they keep, and the refused ones left out. Assumes nothing.
+-- Lists of calls joined and split, their last state, what they keep, and the refused ones left out. Assumes nothing.
 use mathlib.Core.Path.{_≡_, refl, sym}
 use mathlib.Core.Bool.{Bool, true, false, cond}
 use mathlib.Core.List.{List, [], _∷_, _++_}

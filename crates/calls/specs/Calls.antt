@@ -2,7 +2,8 @@
 use mathlib.Core.Bool.{Bool, cond}
 use mathlib.Core.List.{List, [], _∷_}
 
--- `Step s c next`: the call c, made on the state s, leaves the state `next`. A call is what was handed over and what came back.
+-- `Step s c next`: the call c, made on the state s, leaves the state `next`. A call is what was handed over and what
+-- came back.
 module _ {State Call : Type 0} (Step : State → Call → State → Type 0) where
   -- The calls, one after the other, take the state s to the state `end`.
   pub data Calls : State → List Call → State → Type 0 where

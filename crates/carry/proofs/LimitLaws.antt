@@ -1,4 +1,5 @@
--- A feed's questions under a higher limit: no answer but 9 changes, and where it was 9 question 15 answers. Assumes nothing.
+-- A feed's questions under a higher limit: no answer but 9 changes, and where it was 9 question 15 answers. Assumes
+-- nothing.
 use Prim.Native.Nat.{ℕ, _+_, _≤_, _<_}
 use mathlib.Core.Path.{_≡_, refl}
 use mathlib.Core.Bool.{Bool, true, false, cond}
@@ -48,7 +49,7 @@ module _ (q : Question) (rest : List Question) where
       by-answer later true e x-q = let (all, no-q) = later x-q in ((e, all), no-q)
       by-answer later false e x-q = absurd (others .0 x-q)
 
-  -- where all say 'yes' up to q, those behind it answer
+  -- where all say 'yes' up to q, those after it answer
   left-over : (before : List Question) → AllYes before → q .yes ≡ true → ask (before ++ q ∷ rest) ≡ ask rest
   unfolding ask
   left-over [] all allowed = rw allowed
@@ -76,7 +77,7 @@ module _ (mode : Mode) (rounds n m : ℕ) (closed : Bool) (units bytes count siz
       (λ few. le-leb (units + unitsIn n count) higher (omega (arith, leb-true (units + unitsIn n count) lower few, le)))
       not-9
 
-  -- What an answer of 9 tells.
+  -- What an answer of 9 shows.
   pub record At9 (limit : ℕ) : Type 0 where
     pub session-good : sessionOk mode rounds n m ≡ true
     pub bits-good : bitsOk maxBits bytes count ≡ true

@@ -1,4 +1,5 @@
--- Where the older release answered 9: the carried session answers as question 15 does, by the bits of the counter. Assumes nothing.
+-- Where the older release answered 9: the carried session answers as question 15 does, by the bits of the counter.
+-- Assumes nothing.
 use Prim.Native.Nat.{ℕ, _+_, _^_, _≤_, _<_}
 use mathlib.Core.Path.{_≡_, refl, sym, ap, _∙_}
 use mathlib.Core.Logic.{_↔_}
@@ -26,7 +27,7 @@ use Rattle.carry.proofs.GivenLaws.{given-feed}
 use Rattle.carry.proofs.LimitLaws.{At9, at-9}
 use Rattle.carry.proofs.CarryLaws.{same-fed}
 
--- Which counters have room for so many units: more than the older limit, by no more than the bits of a feed.
+-- Which counters have room for this many units: more than the older limit, by no more than the bits of a feed.
 module _ (m done new : ℕ) (past : olderMaxUnits < done + new) (near : done + new ≤ olderMaxUnits + maxBits) where
   many-counted : 33 ≤ m → countersOk m done new ≡ true
   unfolding countersOk

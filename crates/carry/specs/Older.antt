@@ -1,6 +1,6 @@
--- The release before request 07: what its opening and its feed gave, lists of its feeds, and its sessions carried over. What a text becomes, and
--- what a key expands to, follows the rules of FIPS 197 and SP 800-38A, which both releases have; so do they share how bits are read from
--- the input (`fedText`) and bytes written to the output (`written`).
+-- The release before request 07: what its opening and its feed gave, lists of its feeds, and its sessions carried over.
+-- What a text becomes, and what a key expands to, follows the rules of FIPS 197 and SP 800-38A, which both releases
+-- have; they also share how bits are read from the input (`fedText`) and bytes written to the output (`written`).
 use Prim.Native.Nat.{ℕ, _+_, _^_, _<_, _/_, _%_}
 use mathlib.Core.Path.{_≡_}
 use mathlib.Core.Bool.{Bool, true, false, cond, not}
@@ -54,7 +54,8 @@ pub record OpenedBy32 (mode : Mode) (dir : Direction) (n m : ℕ) (key iv : List
 
 -- ---- feed
 
--- One feed of that release: what it was handed, the number, session and runs that it returned, and the output afterwards.
+-- One feed of that release: what it was handed, the number, session and runs that it returned, and the output
+-- afterwards.
 pub record Call32 : Type 0 where
   pub input : List ℕ
   pub count : ℕ
@@ -69,7 +70,7 @@ pub record Call32 : Type 0 where
 unfoldable pub feedNumber32 : Session32 → Call32 → ℕ
 feedNumber32 s c = ask (olderQuestions s (length (c .input)) (c .count) (length (c .out)) (c .place))
 
--- What a session made of a text, and its register after so many units of it.
+-- What a session made of a text, and its register after t units of it.
 unfoldable pub sessionText32 : Session32 → List Bool → List Bool
 sessionText32 s x = worked (Enc (s .rounds) (s .keys)) (Dec (s .rounds) (s .keys)) (s .mode) (s .direction) (s .n) (s .m) (s .register) x
 
@@ -91,7 +92,8 @@ fedSession32 s x =
       closed = not (eqb (length x % s .n) 0);
     }
 
--- What that release's feed gave: the number, the session, every byte of the output, and a run of the block cipher for each unit.
+-- What that release's feed gave: the number, the session, every byte of the output, and a run of the block cipher for
+-- each unit.
 pub record FedBy32 (s : Session32) (c : Call32) : Type 0 where
   pub answer : c .number ≡ feedNumber32 s c
   pub session : c .session ≡ cond (eqb (feedNumber32 s c) 0) (fedSession32 s (fedText (c .input) (c .count))) s

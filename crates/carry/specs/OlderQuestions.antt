@@ -1,5 +1,5 @@
--- The questions that the release before request 07 asked: document 01, "Questions before work", and request 05's, written out. No test and no
--- limit of today's is named here: where today's change, these stay.
+-- The questions that the release before request 07 asked: document 01, "Questions before work", and request 05's,
+-- written out. No test and no limit of today's is named here: where today's change, these stay.
 use Prim.Native.Nat.{ℕ, _+_, _-_, _*_, _/_, _%_, _^_}
 use mathlib.Core.Bool.{Bool, true, not, _&&_, _||_}
 use mathlib.Core.List.{List, [], _∷_}
@@ -46,7 +46,7 @@ olderM Cfb m = eqb m 128
 olderM Ofb m = eqb m 128
 olderM Ctr m = leb 1 m && leb m 128
 
--- 7. Are so many bits whole units in ECB, CBC and CFB?
+-- 7. Are the bits whole units in ECB, CBC and CFB?
 unfoldable pub olderWhole : Mode → ℕ → ℕ → Bool
 olderWhole Ecb n count = eqb (count % n) 0
 olderWhole Cbc n count = eqb (count % n) 0
@@ -54,7 +54,7 @@ olderWhole Cfb n count = eqb (count % n) 0
 olderWhole Ofb n count = true
 olderWhole Ctr n count = true
 
--- The units of so many bits, a short last one included.
+-- The units of `count` bits, a short last one included.
 unfoldable pub olderUnits : ℕ → ℕ → ℕ
 olderUnits n count = (count + (n - 1)) / n
 

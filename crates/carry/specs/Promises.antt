@@ -84,15 +84,15 @@ pub record SameAnswer (c : Call32) (d : Call) : Type 0 where
 -- The older session s answered 9: no question before that one says 'no', and of those after it 15 alone may.
 pub record PastTheOlderLimit (s : Session32) (c : Call32) (d : Call) : Type 0 where
   pub exactly : d .result .number ≡ cond (countersOk (s .m) (s .units) (unitsIn (s .n) (c .count))) 0 15
-  -- in every mode but CTR it is accepted, and with a counter from 33 bits on; with fewer than 32 it is not; with 32 it is exactly where the
-  -- feed's last unit is the last that they count
+  -- in every mode but CTR it is accepted, and with a counter from 33 bits on; with fewer than 32 it is not; with 32 it
+  -- is exactly where the feed's last unit is the last that they count
   pub without-counter : (s .mode ≡ Ctr → ⊥) → d .result .number ≡ 0
   pub many-bits : 33 ≤ s .m → d .result .number ≡ 0
   pub few-bits : s .m < 32 → d .result .number ≡ 15
   pub with-32 : s .m ≡ 32 → (d .result .number ≡ 0) ↔ (s .units + unitsIn (s .n) (c .count) ≡ 4294967296)
 
--- From the older session s on: as long as the older answers are not 9, the answers are the same after each feed. Where one is 9 and the
--- carried session answers 15, both stay as they were, and it goes on so.
+-- From the older session s on: as long as the older answers are not 9, the answers are the same after each feed. Where
+-- one is 9 and the carried session answers 15, both stay as they were, and the same holds from there on.
 unfoldable pub SameWhileAllowed : Session32 → List Call32 → List Call → Type 0
 SameWhileAllowed s [] ds = Unit {0}
 SameWhileAllowed s (c ∷ cs) [] = Unit {0}
@@ -127,14 +127,15 @@ unfoldable pub acceptedFeeds : List Call32 → List Call
 acceptedFeeds [] = []
 acceptedFeeds (c ∷ cs) = cond (eqb (c .number) 0) (todays c ∷ acceptedFeeds cs) (acceptedFeeds cs)
 
--- Feeds of the older release up to the change, and feeds on the carried session after it, are one list of today's feeds. So all that is
--- promised of lists holds across the change.
+-- Feeds of the older release up to the change, and feeds on the carried session after it, are one list of today's
+-- feeds. So all that is promised of lists holds across the change.
 unfoldable pub AcrossTheChange : Type 0
 AcrossTheChange =
     (s last : Session32) (end : Session) (olds : List Call32) (calls : List Call) → Feeds32 s olds last → Feeds (carried last) calls end
     → Feeds (carried s) (acceptedFeeds olds ++ calls) end
 
--- Demands 2 and 3, for sessions that the older release's opening gave with the number 0. The change may come anywhere in each list.
+-- Demands 2 and 3, for sessions that the older release's opening gave with the number 0. The change may come anywhere
+-- in each list.
 unfoldable pub DemandTwoAcross : Type 0
 DemandTwoAcross =
     (mode : Mode) (dir : Direction) (n m : ℕ) (key iv : List ℕ) (s last : Session32) (end : Session) (olds : List Call32) (calls : List Call)

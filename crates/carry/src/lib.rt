@@ -19,7 +19,7 @@ pub struct Session32 {
 }
 
 impl Session32 {
-    // The session of today with each part as it was.
+    // Today's session with each part as it was.
     pub fn carried(self) -> Session
         ensures { λ r. ⌜ r ≡ carried self ⌝ }
     {

@@ -1,5 +1,5 @@
--- The turns of the code's loops over the rounds: of the cipher from its first AddRoundKey on, and of the inverse cipher down to
--- its last. Assumes nothing.
+-- The turns of the code's loops over the rounds: of the cipher from its first AddRoundKey on, and of the inverse cipher
+-- down to its last. Assumes nothing.
 use mathlib.Core.Path.{_≡_, sym, ap, _∙_}
 use mathlib.Core.Bool.{true}
 use mathlib.Core.List.{List}

@@ -29,8 +29,8 @@ invCipher nr w b =
 unfoldable pub roundsOk : ℕ → Bool
 roundsOk nr = cond (eqb nr 10) true (cond (eqb nr 12) true (eqb nr 14))
 
--- The block functions Enc and Dec of document 01, under the rounds nr and the round keys w. Under any other number of rounds
--- they give zero bytes.
+-- The block functions Enc and Dec of document 01, under the rounds nr and the round keys w. Under any other number of
+-- rounds they give zero bytes.
 unfoldable pub Enc : ℕ → List ℕ → List ℕ → List ℕ
 Enc nr w b = cond (roundsOk nr) (cipher nr w b) (replicate 16 0)
 

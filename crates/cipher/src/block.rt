@@ -12,8 +12,8 @@ pub fn rounds_ok(rounds: usize) -> bool
     rounds == 10 || rounds == 12 || rounds == 14
 }
 
-// A round's key is added row by row here, and not by a call for the whole state: the compiler keeps the rows in registers
-// then, and a block takes little more than half the time.
+// A round's key is added row by row here, and not by a call for the whole state: the compiler keeps the rows in
+// registers then, and a block takes little more than half the time.
 fn full_round(table: &[u8; 256], keys: &[u8; 240], round: usize, s: [[u8; 4]; 4]) -> [[u8; 4]; 4]
     requires { ⌜ round < 15 ⌝ }
     ensures { λ r. ⌜ r ≡ addRoundKey (now (keys .entry)) round (mixColumns (shiftRows (bytewise (λ b. getD (now (table .entry)) b 0) s))) ⌝ }

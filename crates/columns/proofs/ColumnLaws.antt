@@ -1,4 +1,5 @@
--- A state by its four columns, a word to each: what the code makes of the words is what the rounds make of the state. Assumes nothing.
+-- A state by its four columns, a word to each: what the code makes of the words is what the rounds make of the state.
+-- Assumes nothing.
 use mathlib.Core.Path.{_≡_, refl, sym, ap, _∙_}
 use mathlib.Core.Bool.{Bool, true, false}
 use mathlib.Core.List.{List, [], _∷_}

@@ -1,3 +1,3 @@
--- What the contracts of this crate cite: a block by prepared words, and apart what only its own functions, and `prepared`, need.
+-- What the contracts of this crate cite: a block by prepared words; in `inner`, what only it and `prepared` need.
 pub mod inner
 pub mod Block

@@ -1,5 +1,5 @@
--- The counter, byte by byte from the last one, each overflowing into the one before it: what a store into one byte does to the number, and when the block is the next
--- one. Assumes nothing.
+-- The counter, byte by byte from the last one, each overflowing into the one before it: what a store into one byte does
+-- to the number, and when the block is the next one. Assumes nothing.
 use mathlib.Core.Path.{_≡_, sym, ap, _∙_}
 use mathlib.Core.List.{List, [], _∷_}
 use Prim.Native.Nat.{ℕ, zero, suc, _+_, _-_, _*_, _/_, _%_, _^_, _<_, _≤_}

@@ -18,8 +18,9 @@ pub fn increment_block(block: [u8; 16], m: usize) -> [u8; 16]
     increment_bytes(block, m)
 }
 
-// The same in every case. A byte that overflows becomes 0, and the byte before it is counted up too; the first byte that is not ff ends
-// that. Below `end` no byte counts whole: the one before it counts with the bits that are left, and drops its overflow.
+// The same in every case. A byte that overflows becomes 0, and the byte before it is counted up too; the first byte
+// that is not ff ends that. Below `end` no byte counts whole: the one before it counts with the bits that are left, and
+// drops its overflow.
 fn increment_bytes(block: [u8; 16], m: usize) -> [u8; 16]
     ensures { λ r. ⌜ r ≡ increment m block ⌝ }
 {

@@ -59,7 +59,7 @@ pasted-pair d at t i {l} {v} {w} e f g hd ht =
     let first = pasted-next d at t (i * 2) {l = l} e f (omega arith) (omega arith) in
     rw (next, add-assoc at (i * 2) 1) (pasted-next d at t (i * 2 + 1) {l = set l (at + i * 2) v} first g hd ht)
 
--- ---- an even count, at most so many
+-- ---- an even count, at most `limit`
 
 pub fit-size : (limit : ℕ) (w : List ℕ) → digitsFit limit w ≡ true → length w ≤ limit
 fit-size limit w e =

@@ -1,4 +1,4 @@
--- A byte between two others, and what a digit counts. Assumes nothing.
+-- A byte between two others, and the value of a digit. Assumes nothing.
 use mathlib.Core.Path.{_≡_, refl}
 use mathlib.Core.Bool.{Bool, true, false, _&&_, cond}
 use Prim.Native.Nat.{ℕ, _+_, _-_, _≤_, _<_}
@@ -25,7 +25,7 @@ module _ (low high b : ℕ) (e : between low high b ≡ true) where
   unfolding between
   between-high = leb-true b high (and-second (leb low b) (leb b high) e)
 
--- a digit counts less than 16
+-- a digit's value is less than 16
 below : (p q : Bool) (b : ℕ) → (p ≡ true → b ≤ 57) → (q ≡ true → b ≤ 102) → cond p (b - 48) (cond q (b - 97 + 10) 0) < 16
 below true q b f g = omega (arith, f refl)
 below false true b f g = omega (arith, g refl)

@@ -1,5 +1,5 @@
--- A text read byte by byte from its front: what a search, a test of each byte and a count of decimal digits say of the rest from
--- byte i on, one byte further and at the end. Assumes nothing.
+-- A text read byte by byte from its front: what a search, a test of each byte and a count of decimal digits say of the
+-- rest from byte i on, one byte further and at the end. Assumes nothing.
 use mathlib.Core.Path.{_≡_, sym, _∙_}
 use mathlib.Core.Bool.{Bool, true, false}
 use mathlib.Core.List.{List}
@@ -56,6 +56,6 @@ pub decimal-on : (b : ℕ) {t : Bool} → t ≡ between 48 57 b → t ≡ true �
 unfolding isDecimal
 decimal-on b e f = sym e ∙ f
 
--- at most three digits count less than 1,000
+-- the value of at most three digits is less than 1,000
 pub three-digits : (n i : ℕ) → n < 10 ^ i → i < 3 → n < 1000
 three-digits n i h k = lt-of-lt-of-le h (pow-le-pow-right {n = 10} (lit< tt) {i = i} {j = 3} (omega arith))

@@ -1,4 +1,4 @@
--- Texts as lists of bytes (ASCII): the pieces before and behind a byte, digits, and numbers written in them.
+-- Texts as lists of bytes (ASCII): the pieces before and after a byte, digits, and numbers written in them.
 use Prim.Native.Nat.{ℕ, suc, _+_, _-_, _*_, _/_, _%_}
 use mathlib.Core.Bool.{Bool, true, false, cond, _&&_, _||_}
 use mathlib.Core.List.{List, [], _∷_, _++_}
@@ -28,7 +28,7 @@ pub record Cut : Type 0 where
   pub before : List ℕ
   pub behind : List ℕ
 
--- A text that has a `stop`: what stands before the first one, and what behind it.
+-- A text that has a `stop`: what stands before the first one, and what after it.
 unfoldable pub cut : ℕ → List ℕ → Option Cut
 cut stop s = given (ltb (upTo stop s) (length s)) (record { before = take (upTo stop s) s; behind = drop (upTo stop s + 1) s })
 
@@ -48,7 +48,7 @@ unfoldable pub all : (ℕ → Bool) → List ℕ → Bool
 all p [] = true
 all p (b ∷ s) = p b && all p s
 
--- What a digit counts; 0 for any other byte.
+-- The value of a digit; 0 for any other byte.
 unfoldable pub value : ℕ → ℕ
 value b = cond (between 48 57 b) (b - 48) (cond (between 97 102 b) (b - 97 + 10) 0)
 
@@ -56,13 +56,13 @@ value b = cond (between 48 57 b) (b - 48) (cond (between 97 102 b) (b - 97 + 10)
 unfoldable pub digit : ℕ → ℕ
 digit x = cond (leb x 9) (48 + x) (87 + x)
 
--- An even count of digits, at most so many.
+-- An even count of digits, at most `limit`.
 abbrev pub digitsFit : ℕ → List ℕ → Bool
 digitsFit limit w = leb (length w) limit && eqb (length w % 2) 0 && all isHex w
 
 -- ---- numbers
 
--- The number of decimal digits behind those that count n already.
+-- A number's value, from the value n of its first decimal digits and the digits that follow them.
 unfoldable pub countOn : ℕ → List ℕ → ℕ
 countOn n [] = n
 countOn n (b ∷ s) = countOn (n * 10 + value b) s

@@ -5,7 +5,7 @@ ghost use Prim.Native.Nat.{_+_, _*_, _<_};
 ghost use lib.ListN.{length, getD};
 ghost use Rattle.digits.specs.Texts.{isHex, all, value, digit, decodedInto, encodedInto, digitsFit};
 
-// What a digit counts; 0 for any other byte.
+// The value of a digit; 0 for any other byte.
 fn value(b: u8) -> u8
     ensures { λ r. ⌜ r ≡ value b ⌝ }
 {

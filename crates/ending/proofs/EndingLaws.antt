@@ -1,4 +1,5 @@
--- The last two blocks on bytes are a message of two blocks: its last one, of s bytes, stands first in 16, with 00 behind it. Assumes nothing.
+-- The last two blocks on bytes are a message of two blocks: its last one, of s bytes, stands first in 16, with 00 after
+-- it. Assumes nothing.
 use Prim.Native.Nat.{ℕ, _*_, _≤_}
 use mathlib.Core.Path.{_≡_, refl, sym, ap, ap₂, subst, _∙_}
 use mathlib.Core.Bool.{Bool}

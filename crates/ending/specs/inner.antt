@@ -1,2 +1,2 @@
--- For the calls' own functions: the last two blocks by the code. A reader of the promises can pass it over.
+-- For the calls' own functions: the last two blocks by the code. A reader of the promises can skip it.
 pub mod Endings

@@ -32,7 +32,7 @@ fn encrypt_ending(
     Ending { block, end: stolen }
 }
 
-// The end's first bytes, and behind them those of the block before it, decrypted.
+// The end's first bytes, and after them those of the block before it, decrypted.
 fn restore(end: [u8; 16], opened: [u8; 16], size: usize) -> [u8; 16]
     requires { ⌜ size ≤ 128 ⌝ }
     ensures { λ r. ⌜ r ≡ restoredBytes end opened size ⌝ }
@@ -64,8 +64,8 @@ fn decrypt_ending(
     }
 }
 
-// The last two blocks of a message, which are a message of their own with the session's register for an IV. The part begins at the
-// first of them, and the end has `size` bits.
+// The last two blocks of a message, which are a message of their own with the session's register for an IV. The part
+// begins at the first of them, and the end has `size` bits.
 pub fn finish(session: Session, part: &[u8], size: usize) -> Ending
     requires { ⌜ Ends (session .rounds) size (now part) ⌝ }
     ensures { λ r. ⌜ bits (r .block) ++ take size (bits (r .end)) ≡ stolenText (Enc (session .rounds) (session .keys)) (Dec (session .rounds) (session .keys)) (session .direction) (session .register) (take (128 + size) (bits (now (part .entry)))) ⌝ }

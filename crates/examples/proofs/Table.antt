@@ -1,4 +1,5 @@
--- The twelve examples pass, by computation: the round keys once, each block once, and then the table over those. Assumes nothing.
+-- The twelve examples pass, by computation: the round keys once, each block once, and then the table over those.
+-- Assumes nothing.
 use mathlib.Core.Path.{_≡_, refl}
 use mathlib.Core.List.{List, [], _∷_}
 use Prim.Native.Nat.{ℕ}

@@ -1,4 +1,4 @@
--- A list and zeros behind it, 240 numbers in all: what one store and a run of stores behind the list make. Assumes nothing.
+-- A list and zeros after it, 240 numbers in all: what a store and a run of stores after the list make. Assumes nothing.
 use mathlib.Core.Path.{_≡_, refl, sym, ap, ap₂, _∙_}
 use mathlib.Core.List.{List, [], _∷_, _++_}
 use Prim.Native.Nat.{ℕ, zero, suc, _+_, _-_, _≤_, _<_}
@@ -30,7 +30,7 @@ pub filled-bytes : {x : List ℕ} → Bytes x → Bytes (filled x)
 unfolding filled
 filled-bytes {x} h = append-bytes h (zeros-bytes (240 - length x))
 
--- y written behind x
+-- y written after x
 pub filled-more : (x y : List ℕ) (at n : ℕ) → length x ≡ at → length y ≡ n → take at (filled x) ++ y ++ drop (at + n) (filled x) ≡ filled (x ++ y)
 unfolding filled
 filled-more x y at n p q =

@@ -1,5 +1,5 @@
--- The schedule (FIPS 197 section 5.2): its length, that it is bytes, how the code's turn makes one word more, and the 240 bytes of
--- round keys. Assumes nothing.
+-- The schedule (FIPS 197 section 5.2): its length, that it is bytes, how the code's turn makes one word more, and the
+-- 240 bytes of round keys. Assumes nothing.
 use mathlib.Core.Path.{_≡_, sym, ap, ap₂, _∙_}
 use mathlib.Core.Bool.{true}
 use mathlib.Core.List.{List, _++_}
@@ -35,7 +35,7 @@ unfolding schedule
 schedule-bytes nk h zero = h
 schedule-bytes nk {key} h (suc k) = append-bytes (schedule-bytes nk h k) (nextWord-bytes nk (schedule-bytes nk h k) (nk + k))
 
--- word i, made from the words before it and written behind them
+-- word i, made from the words before it and written after them
 module _ (nk : ℕ) (key : List ℕ) (h : length key ≡ 4 * nk) (positive : 0 < nk) (i : ℕ) (from : nk ≤ i) where
   schedule-at : length (schedule nk key (i - nk)) ≡ 4 * i
   schedule-at = schedule-length nk key h (i - nk) ∙ ap (λ n. 4 * n) (omega arith)

@@ -1,5 +1,5 @@
--- One word of the schedule (FIPS 197 section 5.2): words from tables and by their bytes, the three cases of `temp`, lengths, and
--- that all stay bytes. Assumes nothing.
+-- One word of the schedule (FIPS 197 section 5.2): words from tables and by their bytes, the three cases of `temp`,
+-- lengths, and that all stay bytes. Assumes nothing.
 use mathlib.Core.Path.{_≡_, refl, sym, ap, ap₂, _∙_}
 use mathlib.Core.Bool.{Bool, true, false, cond}
 use mathlib.Core.List.{List, _++_}
@@ -128,7 +128,7 @@ pub nextWord-bytes : (nk : ℕ) {w : List ℕ} → Bytes w → (i : ℕ) → Byt
 unfolding nextWord
 nextWord-bytes nk {w} h i = xorBytes-bytes (wordAt-bytes h (i - nk)) (temp-bytes nk i (wordAt-bytes h (i - 1)))
 
--- ---- what stands behind the words that are read changes nothing
+-- ---- what follows the words that are read changes nothing
 
 wordAt-front : (b z : List ℕ) (i : ℕ) → 4 * i + 4 ≤ length b → wordAt (b ++ z) i ≡ wordAt b i
 unfolding wordAt

@@ -1,4 +1,5 @@
--- Which openings and feeds are accepted, in plain numbers: at 0, and only there, every question said 'yes'. Assumes nothing.
+-- Which openings and feeds are accepted, in plain numbers: at 0, and only there, every question said 'yes'. Assumes
+-- nothing.
 use Prim.Native.Nat.{ℕ, _+_, _^_, _≤_}
 use mathlib.Core.Path.{_≡_, refl, sym, _∙_}
 use mathlib.Core.Bool.{true, not}

@@ -1,5 +1,5 @@
--- A list of feeds on a decrypting session and the plain machine side by side: the same number, register, units, closing and
--- plaintext after each feed, and the machine's ciphertext is what was fed. Assumes nothing.
+-- A list of feeds on a decrypting session and the plain machine side by side: the same number, register, units, closing
+-- and plaintext after each feed, and the machine's ciphertext is what was fed. Assumes nothing.
 use mathlib.Core.Path.{_≡_, sym, ap, subst, _∙_}
 use mathlib.Core.Bool.{Bool, true, false, cond}
 use mathlib.Core.List.{List, _∷_, _++_, append-assoc, append-nil}

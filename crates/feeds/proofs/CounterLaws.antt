@@ -1,5 +1,5 @@
--- No counter block is used twice: over a list of feeds in CTR the registers before the units are the first counter blocks from the
--- session's own on, and question 15 keeps them to 2^m. Assumes nothing.
+-- No counter block is used twice: over a list of feeds in CTR the registers before the units are the first counter
+-- blocks from the session's own on, and question 15 keeps them to 2^m. Assumes nothing.
 use Prim.Native.Nat.{ℕ, zero, suc, _+_, _^_, _≤_, _<_}
 use mathlib.Core.Path.{_≡_, refl, sym, ap, ap₂, _∙_}
 use mathlib.Core.Bool.{Bool, true, false}

@@ -1,5 +1,5 @@
--- A list of feeds is as one feed of all the bits that were accepted: the text written and the session at the end are that feed's.
--- Assumes nothing.
+-- A list of feeds is as one feed of all the bits that were accepted: the text written and the session at the end are
+-- that feed's. Assumes nothing.
 use Prim.Native.Nat.{_+_, _%_, _≤_}
 use mathlib.Core.Path.{_≡_, refl, sym, ap, ap₂, _∙_}
 use mathlib.Core.Bool.{Bool, true, false, true≢false}

@@ -1,5 +1,5 @@
--- The plain machine, unit by unit: after k units it holds the register, the count and the texts that the unit rules give for
--- the whole text, and it is closed by a short unit. Assumes nothing.
+-- The plain machine, unit by unit: after k units it holds the register, the count and the texts that the unit rules
+-- give for the whole text, and it is closed by a short unit. Assumes nothing.
 use Prim.Native.Nat.{ℕ, zero, suc, _+_, _*_, _%_, _≤_, _<_}
 use mathlib.Core.Path.{_≡_, refl, sym, ap, _∙_}
 use mathlib.Core.Logic.{_≢_}

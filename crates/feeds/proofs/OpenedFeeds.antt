@@ -1,5 +1,5 @@
--- A list of feeds on the session that an accepted opening returned: all that the laws about whole texts ask for, and the text
--- that was written. Assumes nothing.
+-- A list of feeds on the session that an accepted opening returned: all that the laws about whole texts ask for, and
+-- the text that was written. Assumes nothing.
 use mathlib.Core.Path.{_≡_, refl, ap, _∙_}
 use mathlib.Core.Bool.{true}
 use mathlib.Core.List.{List}

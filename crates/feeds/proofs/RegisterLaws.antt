@@ -1,5 +1,5 @@
--- The registers that the machine goes through along a list of feeds are those of the unit rules on the joined ciphertext.
--- Assumes nothing.
+-- The registers that the machine goes through along a list of feeds are those of the unit rules on the joined
+-- ciphertext. Assumes nothing.
 use Prim.Native.Nat.{ℕ, zero, suc, _+_, _%_, _<_}
 use mathlib.Core.Path.{_≡_, refl, sym, ap, ap₂, _∙_}
 use mathlib.Core.Bool.{Bool, true, false}

@@ -1,5 +1,5 @@
--- Demand 3's registers are request 05's, and the last one: from the register before a feed on, its registers are those before each of
--- its units and the one after it. Assumes nothing.
+-- Demand 3's registers are request 05's, and the last one: from the register before a feed on, its registers are those
+-- before each of its units and the one after it. Assumes nothing.
 use Prim.Native.Nat.{ℕ, zero, suc}
 use mathlib.Core.Path.{_≡_, refl, sym, ap, ap₂, _∙_}
 use mathlib.Core.Bool.{Bool}

@@ -14,7 +14,7 @@ pub whole-block-opening : WholeBlockOpening
 unfolding WholeBlockOpening openNumber ask openQuestions
 whole-block-opening mode n key iv = rw (whole-block mode)
 
--- Question 15 behind question 9.
+-- Question 15 after question 9.
 never-15 : (done new : ℕ) → _≡_ {A = ℕ} (cond (unitsOk maxUnits done new) (cond (countersOk 128 done new) 0 15) 9) (cond (unitsOk maxUnits done new) 0 9)
 never-15 done new = by-answer (unitsOk maxUnits done new) refl
   where

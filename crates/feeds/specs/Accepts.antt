@@ -1,5 +1,5 @@
--- Which openings and feeds are accepted, in plain numbers: document 01, "Questions before work". 14 and 15 are request 05's, and the limit
--- of 9 is request 07's.
+-- Which openings and feeds are accepted, in plain numbers: document 01, "Questions before work". 14 and 15 are request
+-- 05's, and the limit of 9 is request 07's.
 use Prim.Native.Nat.{ℕ, _+_, _-_, _*_, _%_, _^_, _≤_}
 use mathlib.Core.Path.{_≡_}
 use mathlib.Core.Logic.{_↔_, _⊎_}
@@ -77,8 +77,8 @@ FeedAccepts =
     (s : Session) (input : List ℕ) (count : ℕ) (out : List ℕ) (place : ℕ) (r : Fed) (after : List ℕ)
     → FedBy s input count out place r after → (r .number ≡ 0) ↔ AcceptableFeed s input count out place
 
--- The first feed after an accepted opening: 6, 7, 8 and 15 alone. Neither 'closed' nor 'limit reached' comes before any unit (document 01's
--- shams).
+-- The first feed after an accepted opening: 6, 7, 8 and 15 alone. Neither 'closed' nor 'limit reached' comes before any
+-- unit (document 01's shams).
 unfoldable pub FirstFeedAccepts : Type 0
 FirstFeedAccepts =
     (mode : Mode) (dir : Direction) (n m : ℕ) (key iv : List ℕ) (o : Opened) → Bytes key → OpenedBy mode dir n m key iv o → o .number ≡ 0

@@ -1,4 +1,4 @@
--- Request 05: which counter blocks a session uses, that none is used twice, and that with m = 128 nothing is otherwise than before it.
+-- Request 05: which counter blocks a session uses, that none is used twice, and that with m = 128 all is as before it.
 use Prim.Native.Nat.{ℕ, _+_, _^_, _≤_, _<_}
 use mathlib.Core.Path.{_≡_}
 use mathlib.Core.Bool.{_&&_}
@@ -33,8 +33,8 @@ pub record EachOnce (s : Session) (calls : List Call) (end : Session) : Type 0 w
 unfoldable pub CounterBlocksDiffer : Type 0
 CounterBlocksDiffer = (s end : Session) (calls : List Call) → s .mode ≡ Ctr → Arrays s → Feeds s calls end → EachOnce s calls end
 
--- From an accepted opening, in either direction, over the whole of a list, and from any later session of it on. At most 2^m units are
--- accepted in all.
+-- From an accepted opening, in either direction, over the whole of a list, and from any later session of it on. At most
+-- 2^m units are accepted in all.
 pub record OpenedOnce (m : ℕ) (first : Session) (before : List Call) (s : Session) (calls : List Call) (end : Session) : Type 0 where
   pub in-all : EachOnce first (before ++ calls) end
   pub from-here : EachOnce s calls end

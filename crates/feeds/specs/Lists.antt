@@ -1,5 +1,5 @@
--- Lists of feeds: each is a feed on the session that the one before returned, with its own input and output, and each step is the
--- feed's own `ensures` clause. So what is shown of a list is shown of the code.
+-- Lists of feeds: each is a feed on the session that the one before returned, with its own input and output, and each
+-- step is the feed's own `ensures` clause. So what is shown of a list is shown of the code.
 use Prim.Native.Nat.{ℕ, zero, suc, _+_}
 use mathlib.Core.Bool.{Bool, cond}
 use mathlib.Core.List.{List, [], _∷_, _++_}
@@ -65,7 +65,7 @@ unfoldable pub along : {A : Type 0} → ℕ → (ℕ → A) → List A
 along zero f = []
 along (suc k) f = f 0 ∷ along k (λ t. f (suc t))
 
--- R before each unit that the calls worked, in order, from the session s on. In CTR these are the counter blocks that they used.
+-- R before each unit that the calls processed, in order, from the session s on: in CTR the counter blocks they used.
 unfoldable pub registersUsed : Session → List Call → List (List ℕ)
 registersUsed s [] = []
 registersUsed s (c ∷ cs) =
@@ -83,7 +83,7 @@ machineFed machine c = machineFeed machine (c .input) (c .count) (length (c .out
 abbrev pub callRegisters : Machine → Call → List (List ℕ)
 callRegisters machine c = feedRegisters machine (c .input) (c .count) (length (c .out)) (c .place)
 
--- It after the same list.
+-- The machine after the same list.
 unfoldable pub machineAfter : Machine → List Call → Machine
 machineAfter machine [] = machine
 machineAfter machine (c ∷ cs) = machineAfter (machineFed machine c) cs

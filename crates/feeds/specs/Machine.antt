@@ -1,5 +1,5 @@
--- The plain machine of document 01, "Lists of decrypting feeds". It shares the unit rules and the questions with the sessions,
--- and nothing else.
+-- The plain machine of document 01, "Lists of decrypting feeds". It shares the unit rules and the questions with the
+-- sessions, and nothing else.
 use Prim.Native.Nat.{ℕ, zero, suc, _+_}
 use mathlib.Core.Bool.{Bool, true, false, cond}
 use mathlib.Core.List.{List, [], _∷_, _++_}
@@ -31,8 +31,8 @@ unfoldable pub machineStart : Opening → Machine
 machineStart o =
     record { opening = o; register = start (o .mode) (o .iv); units = 0; closed = false; ciphertext = []; plaintext = [] }
 
--- One unit C: both texts grow, R moves, 1 is added to the units. After a short unit it is closed. Enc and Dec are AES under the
--- opening's key, whose length gives the rounds.
+-- One unit C: both texts grow, R moves, 1 is added to the units. After a short unit it is closed. Enc and Dec are AES
+-- under the opening's key, whose length gives the rounds.
 unfoldable pub machineUnit : Machine → List Bool → Machine
 machineUnit machine c =
     let o = machine .opening in

@@ -58,8 +58,8 @@ RunsAddUp = (s end : Session) (calls : List Call) → Feeds s calls end → end 
 
 -- ---- Request 07
 
--- No count above the limit arises: a session that has done no more units than it allows has done no more after any list of feeds, refused
--- ones among them.
+-- No count above the limit arises: a session that has done no more units than it allows has done no more after any list
+-- of feeds, refused ones among them.
 unfoldable pub UnitsStayWithin : Type 0
 UnitsStayWithin = (s end : Session) (calls : List Call) → s .units ≤ maxUnits → Feeds s calls end → end .units ≤ maxUnits
 
@@ -72,7 +72,8 @@ pub record Same (machine : Machine) (s : Session) (plaintext : List Bool) : Type
   pub closed : s .closed ≡ machine .closed
   pub text : plaintext ≡ machine .plaintext
 
--- That after each feed of a list, refused ones too, with the number that it answered; `before` is what was written before them.
+-- That after each feed of a list, refused ones too, with the number that it answered; `before` is what was written
+-- before them.
 unfoldable pub AgreesThroughout : Machine → List Bool → List Call → Type 0
 AgreesThroughout machine before [] = Unit {0}
 AgreesThroughout machine before (c ∷ cs) =
@@ -82,8 +83,8 @@ AgreesThroughout machine before (c ∷ cs) =
       rest : AgreesThroughout (machineFed machine c) (before ++ writtenBits c) cs;
     }
 
--- One list beside its machine: equality after every feed, and what the machine took and gave are the bits that the accepted feeds
--- were fed and wrote. There is a register for each unit, and the one before the first.
+-- One list beside its machine: equality after every feed, and what the machine took and gave are the bits that the
+-- accepted feeds were fed and wrote. There is a register for each unit, and the one before the first.
 pub record Followed (o : Opening) (calls : List Call) : Type 0 where
   pub agrees : AgreesThroughout (machineStart o) [] calls
   pub ciphertext : machineAfter (machineStart o) calls .ciphertext ≡ allFed calls
@@ -94,8 +95,8 @@ pub record Followed (o : Opening) (calls : List Call) : Type 0 where
   -- and they are request 05's, R before each unit of the list on the opened session, followed by that R
   pub used : registers o calls ≡ registersUsed (openedSession (o .mode) Decrypt (o .n) (o .m) (o .key) (o .iv)) calls ++ machineAfter (machineStart o) calls .register ∷ []
 
--- The one claim over two lists of decrypting feeds with equal mode, key and n, each with its own m. x and y are their ciphertexts, p
--- and q their plaintexts.
+-- The one claim over two lists of decrypting feeds with equal mode, key and n, each with its own m. x and y are their
+-- ciphertexts, p and q their plaintexts.
 module _ (mode : Mode) (n m m′ : ℕ) (key v w : List ℕ) (calls others : List Call) where
   abbrev first : Opening
   first = record { mode = mode; n = n; m = m; key = key; iv = v }
@@ -122,8 +123,8 @@ module _ (mode : Mode) (n m m′ : ℕ) (key v w : List ℕ) (calls others : Lis
     -- recovery after loss: for every common run, wherever it begins, plaintext units and the machines' registers
     pub run-plain : (needed : ℕ) → recoveryUnits mode n ≡ some needed → (i j k : ℕ) → CommonRun n x y i j k → (t : ℕ) → needed ≤ t → t < k → unitAt n p (i + t) ≡ unitAt n q (j + t)
     pub run-registers : (needed : ℕ) → recoveryUnits mode n ≡ some needed → (i j k : ℕ) → CommonRun n x y i j k → (t : ℕ) → needed ≤ t → t ≤ k → getD (registers first calls) (i + t) [] ≡ getD (registers second others) (j + t) []
-    -- reach of damage: one changed block in ECB and in CBC, one changed segment in CFB; in OFB and CTR exactly the changed bits, in
-    -- CTR where m is the same
+    -- reach of damage: one changed block in ECB and in CBC, one changed segment in CFB; in OFB and CTR exactly the
+    -- changed bits, in CTR where m is the same
     pub one-block-ecb : mode ≡ Ecb → (j : ℕ) → OneBlockChanged x y j → OnlyBlockDamaged p q j
     pub one-block : mode ≡ Cbc → v ≡ w → (j : ℕ) → OneBlockChanged x y j → OneBlockDamaged x y p q j
     pub one-segment : mode ≡ Cfb → v ≡ w → (j : ℕ) → OneUnitChanged n x y j → OneSegmentDamaged n x y p q j

@@ -1,5 +1,5 @@
--- The inverses of all bytes, as a list: one test computes each of them, and the other tests look them up. The inverse is the inverse.
--- Assumes nothing.
+-- The inverses of all bytes, as a list: one test computes each of them, and the other tests look them up. The inverse
+-- is the inverse. Assumes nothing.
 use mathlib.Core.Path.{_≡_, refl, sym, ap, _∙_}
 use mathlib.Core.List.{List, [], _∷_}
 use Prim.Native.Nat.{ℕ, zero, suc, _+_, _/_, _<_}

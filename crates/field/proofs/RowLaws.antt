@@ -1,5 +1,5 @@
--- Four bytes as one number: the operations on such a number work on each byte, so that doubling the number doubles each of
--- its bytes. Assumes nothing.
+-- Four bytes as one number: the operations on such a number work on each byte, so that doubling the number doubles each
+-- of its bytes. Assumes nothing.
 use mathlib.Core.Path.{_≡_, refl, sym, ap, ap₂, _∙_}
 use mathlib.Core.List.{List, [], _∷_, map}
 use Prim.Native.Nat.{ℕ, _+_, _*_, _/_, _%_, _^_, _<_}

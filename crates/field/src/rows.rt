@@ -30,7 +30,8 @@ pub fn split_row(x: u32) -> [u8; 4]
     ]
 }
 
-// Each of the four bytes doubled: the bits that do not leave a byte shift up, and 1b is added to each byte whose highest bit left.
+// Each of the four bytes doubled: the bits that do not leave a byte shift up, and 1b is added to each byte whose
+// highest bit left.
 pub fn double_row(x: u32) -> u32
     ensures { λ r. ⌜ r ≡ number (map Field.double (numberBytes 4 x)) ⌝ }
 {

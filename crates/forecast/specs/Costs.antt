@@ -21,7 +21,8 @@ forecastQuestions mode n bits =
 unfoldable pub forecastNumber : Mode → ℕ → ℕ → ℕ
 forecastNumber mode n bits = ask (forecastQuestions mode n bits)
 
--- The bytes that the bits need, and a run of the block cipher for each unit, a short one included; zeros where it is refused.
+-- The bytes that the bits need, and a run of the block cipher for each unit, a short one included; zeros where it is
+-- refused.
 pub record ForecastBy (mode : Mode) (n bits : ℕ) (r : Cost) : Type 0 where
   pub answer : r .number ≡ forecastNumber mode n bits
   pub bytes : r .bytes ≡ cond (eqb (forecastNumber mode n bits) 0) (bytesFor bits) 0

@@ -57,8 +57,8 @@ ForecastHolds =
 
 -- ---- a message in several feeds
 
--- Over any list of feeds from an accepted opening, the runs of all together are those forecast for the message as a whole, however it
--- was cut. It is at most as long as the largest feed, since no longer one has a forecast.
+-- Over any list of feeds from an accepted opening, the runs of all together are those forecast for the message as a
+-- whole, however it was cut. It is at most as long as the largest feed, since a longer one has no forecast.
 unfoldable pub MessageForecast : Type 0
 MessageForecast =
     (mode : Mode) (dir : Direction) (n m : ℕ) (key iv : List ℕ) (r : Opened) (calls : List Call) (end : Session) (cost : Cost)

@@ -1,4 +1,4 @@
-// What a feed will cost, told before it: from mode, n and a bit count, the bytes that it will write and the runs of the block
+// What a feed will cost, from mode, n and a bit count: the bytes that it will write and the runs of the block
 // cipher that it will make. Nothing is run.
 use rules::Mode;
 ghost use mathlib.Core.Path.{_≡_};

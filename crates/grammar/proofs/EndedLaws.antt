@@ -1,4 +1,4 @@
--- Where reading has ended, no text that begins so is of the form, whatever comes behind it: a line that is complete stays as it
+-- Where reading has ended, no text that begins this way is of the form, whatever follows: a complete line stays as it
 -- is, and one that is open and too long only becomes longer. Assumes nothing.
 use mathlib.Core.Path.{_≡_, refl, sym, ap, _∙_}
 use mathlib.Core.Bool.{Bool, true, false, cond}
@@ -18,7 +18,7 @@ use Rattle.digits.proofs.CutLaws.{cut-some}
 use Rattle.digits.proofs.DigitLaws.{fit-size}
 use Rattle.grammar.proofs.SizeLaws.{never, given-true, first-size}
 
--- ---- the line that a text begins with, when more comes behind the text
+-- ---- the line that a text begins with, when more follows the text
 
 upTo-same : (stop : ℕ) (front more : List ℕ) → upTo stop front < length front → upTo stop (front ++ more) ≡ upTo stop front
 unfolding upTo

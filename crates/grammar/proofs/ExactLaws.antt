@@ -1,5 +1,5 @@
--- Where the lines that are due are complete, reading has ended exactly where a reader of them gives nothing: each line is of its
--- form for both, or for neither. Assumes nothing.
+-- Where the lines that are due are complete, reading has ended exactly where a reader of them gives nothing: each line
+-- is of its form for both, or for neither. Assumes nothing.
 use mathlib.Core.Path.{_≡_, refl, sym, ap, _∙_}
 use mathlib.Core.Bool.{Bool, true, false, cond, not}
 use mathlib.Core.List.{List, [], _∷_}

@@ -44,7 +44,7 @@ module _ (limit : ℕ) (s : List ℕ) (start len : ℕ) (e : len ≡ upTo 10 (re
       let inside : len < length (drop start s) = rw part-rest at h in
       rw (cut-some 10 (drop start s) len found inside, drop-drop, add-assoc)
 
--- ---- what the answers tell
+-- ---- what the answers show
 
 module _ {limit : ℕ} {s : List ℕ} {start : ℕ} {r : Digits} (h : LineRead limit s start r) where
   pub line-read : {len next : ℕ} → r ≡ Digits.Line len next → hexLine limit (drop start s) ≡ some (record { bytes = bytesAt s start len; behind = drop next s })
@@ -59,7 +59,7 @@ module _ {limit : ℕ} {s : List ℕ} {start : ℕ} {r : Digits} (h : LineRead l
   pub line-bad : r ≡ Digits.Bad → hexLine limit (drop start s) ≡ none
   line-bad e = sym (h .line) ∙ ap (lineIn s start) e
 
--- ---- the place behind the last line
+-- ---- the place after the last line
 
 pub nothing : (s : List ℕ) {next : ℕ} → next ≡ length s → eqb (length (drop next s)) 0 ≡ true
 nothing s {next} e = eq-eqb (length (drop next s)) 0 (simp length-drop (omega arith))

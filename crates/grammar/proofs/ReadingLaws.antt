@@ -61,7 +61,7 @@ module _ (s : List ℕ) (line start len : ℕ) (e : len ≡ upTo 10 (rest s star
   unfolding endsIn
   complete-line h = rw (next-due, part-rest, cut-some 10 (drop start s) len found (rw part-rest at h), drop-drop)
 
--- behind the fourth line
+-- after the fourth line
 pub all-read : (s : List ℕ) (line start : ℕ) → line ≡ 4 → endsFrom s line start ≡ ltb start (length s)
 unfolding endsIn textLines
 all-read s line start e = rw (e, length-drop) (by-test (ltb start (length s)) refl)

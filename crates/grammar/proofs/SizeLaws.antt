@@ -1,5 +1,5 @@
--- The longest texts: each piece that the grammar reads is bounded, a text of the form has at most 8,461 bytes, and its data 4,096.
--- Assumes nothing.
+-- The longest texts: each piece that the grammar reads is bounded, a text of the form has at most 8,461 bytes, and its
+-- data 4,096. Assumes nothing.
 use mathlib.Core.Path.{_≡_, refl, sym, _∙_}
 use mathlib.Core.Bool.{Bool, true, false, _&&_}
 use mathlib.Core.List.{List}
@@ -18,7 +18,7 @@ use Rattle.digits.proofs.RangeLaws.{and-first, and-second}
 use Rattle.header.proofs.WordLaws.{same-other}
 use Rattle.digits.proofs.DigitLaws.{length-hexBytes, fit-size}
 
--- ---- what an answer that is there tells of the steps to it
+-- ---- what an answer that is there shows of the steps to it
 
 pub never : {A : Type 0} {a : A} → none ≡ some a → ⊥
 never e = let z : _≡_ {A = ℕ} 0 1 = cc in omega arith

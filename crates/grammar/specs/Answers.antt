@@ -11,11 +11,11 @@ use Rattle.grammar.specs.Grammar.{maxKeyDigits, maxDataDigits, HexLine, 
 
 -- ---- of a line of digits that starts at an index of s
 
--- The bytes of so many digits from an index on.
+-- The bytes of `len` digits from an index on.
 abbrev pub bytesAt : List ℕ → ℕ → ℕ → List ℕ
 bytesAt s start len = hexBytes (take len (drop start s))
 
--- `next` is the index behind its line feed.
+-- `next` is the index after its line feed.
 abbrev pub lineIn : List ℕ → ℕ → Digits → Option HexLine
 lineIn s start (Digits.Line len next) = some (record { bytes = bytesAt s start len; behind = drop next s })
 lineIn s start Digits.Bad = none
@@ -61,7 +61,8 @@ abbrev pub FormFits : List ℕ → Form → Type 0
 FormFits s (Form.Lines mode n direction key key-len iv iv-len message message-len) = Within s key key-len iv iv-len message message-len
 FormFits s Form.Bad = Unit
 
--- Where the digits stand: the key's from `first` on, those of each line up to its line feed, and the next line after that.
+-- Where the digits stand: the key's from `first` on, those of each line up to its line feed, and the next line after
+-- that.
 pub record Placed (s : List ℕ) (first key key-len iv iv-len message message-len : ℕ) : Type 0 where
   pub key-place : key ≡ first
   pub key-digits : key-len ≡ upTo 10 (drop key s)

@@ -44,7 +44,7 @@ pub record Request : Type 0 where
   pub iv : List ℕ
   pub message : List ℕ
 
--- What stands behind the first line: key, IV, data, and nothing more.
+-- What follows the first line: key, IV, data, and nothing more.
 unfoldable pub behindFirst : First → List ℕ → Option Request
 behindFirst first s = do
   key ← hexLine maxKeyDigits s

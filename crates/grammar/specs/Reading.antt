@@ -1,6 +1,6 @@
--- Document 01, "The text program": "a line that isn't of this form ends the program's reading". Whether it has ended, of the
--- bytes read so far: at a line that is complete and not of its form, at one that is too long for it before it is complete, and
--- at a byte behind the fourth line. An open line is asked for its length alone.
+-- Document 01, "The text program": "a line that isn't of this form ends the program's reading". Whether it has ended,
+-- of the bytes read so far: at a line that is complete and not of its form, at one that is too long for it before it is
+-- complete, and at a byte after the fourth line. An open line is asked for its length alone.
 use Prim.Native.Nat.{ℕ}
 use mathlib.Core.Path.{_≡_}
 use mathlib.Core.Bool.{Bool, true, false, cond, not}

@@ -17,7 +17,7 @@ pub const MAX_KEY_DIGITS: usize = 128;
 // The most digits of the data's line.
 pub const MAX_DATA_DIGITS: usize = 8192;
 
-// A line of digits: how many they are, and the index behind the line feed.
+// A line of digits: how many they are, and the index after the line feed.
 pub enum Digits {
     Line { len: usize, next: usize },
     Bad,
@@ -58,7 +58,7 @@ fn digits_line(s: &[u8], start: usize, limit: usize) -> Digits
     }
 }
 
-// The key, the IV and the data, and nothing behind them.
+// The key, the IV and the data, and nothing after them.
 fn behind_first(mode: Mode, n: usize, direction: Direction, s: &[u8], key: usize) -> Form
     requires { ⌜ key ≤ length (now s) ⌝ }
     ensures { λ r. ⌜ FormRead (now (s .entry)) key (behindFirst (record { mode = mode; n = n; direction = direction }) (drop key (now (s .entry)))) r ⌝ }

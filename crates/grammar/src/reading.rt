@@ -45,7 +45,7 @@ fn good(line: usize, text: &[u8]) -> bool
     digits_fit(text, most(line))
 }
 
-// Has a line ended the reading? Then no text that begins so is of the form, whatever comes behind it.
+// Has a line ended the reading? Then no text that begins this way is of the form, whatever follows.
 pub fn reading_ends(front: &[u8]) -> bool
     ensures { λ r. ⌜ r ≡ readingEnds (now (front .entry)) ⌝ }
 {

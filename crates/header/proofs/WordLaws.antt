@@ -1,4 +1,4 @@
--- The words of the first line: a word of a known length against a name, letter by letter, and what a decimal digit counts.
+-- The first line's words: a word of known length compared with a name letter by letter, and a decimal digit's value.
 -- Assumes nothing.
 use mathlib.Core.Path.{_≡_, refl, ap}
 use mathlib.Core.Bool.{Bool, true, false, _&&_}

@@ -1,4 +1,5 @@
--- What the answers of the words and of the line stand for: each is an enum, and `Bad` is the text that is not of the form.
+-- What the answers of the words and of the line stand for: each is an enum, and `Bad` is the text that is not of the
+-- form.
 use Prim.Native.Nat.{ℕ}
 use mathlib.Core.Option.{Option, none, some}
 use Rattle.rules.specs.declared.Mode.{Mode}

@@ -44,7 +44,7 @@ pub record First : Type 0 where
   pub n : ℕ
   pub direction : Direction
 
--- What stands behind the mode and its space.
+-- What follows the mode and its space.
 unfoldable pub behindMode : Mode → List ℕ → Option First
 behindMode mode words = do
   number ← cut 32 words

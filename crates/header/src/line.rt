@@ -1,4 +1,4 @@
-// The first line: mode, n and direction, parted by one space.
+// The first line: mode, n and direction, separated by one space.
 use crate::words::Decimal;
 use crate::words::DirectionWord;
 use crate::words::ModeWord;

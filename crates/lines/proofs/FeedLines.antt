@@ -25,7 +25,7 @@ unfolding decodedInto
 decoded s out room e =
     rw (e, le-leb (length s / 2) (length out) room) (take-at (hexBytes s) (drop (length s / 2) out) (length s / 2) (length-hexBytes s))
 
--- a front of n bytes is there, whatever comes behind it
+-- a front of n bytes is there, whatever comes after it
 pub front-there : (l rest : List ℕ) {n : ℕ} → length l ≡ n → n ≤ length (l ++ rest)
 front-there l rest e = simp length-append (omega arith)
 

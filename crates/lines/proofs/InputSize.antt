@@ -1,5 +1,5 @@
--- How much of an input decides its answer: what was read when reading ended, or one byte more than the longest text of the
--- form. Assumes nothing.
+-- How much of an input decides its answer: what was read when reading ended, or one byte more than the longest text of
+-- the form. Assumes nothing.
 use mathlib.Core.Path.{_≡_, refl}
 use mathlib.Core.Bool.{Bool, true, false}
 use mathlib.Core.List.{List}

@@ -1,5 +1,5 @@
--- Which numbers are printed: of a session just opened, fed all the data into as much room, every question but 7 is answered 'yes'.
--- Assumes nothing.
+-- Which numbers are printed: of a session just opened, fed all the data into as much room, every question but 7 is
+-- answered 'yes'. The line of 12 differs from the others in its second byte. Assumes nothing.
 use mathlib.Core.Path.{_≡_, refl}
 use mathlib.Core.Bool.{Bool, true, false, cond}
 use mathlib.Core.List.{List, [], _∷_}
@@ -8,9 +8,10 @@ use Prim.Native.Nat.{ℕ, _+_, _-_, _*_, _≤_, _<_}
 use native.Mathlib.Omega.{arith}
 use borrow.Author.Tests.{leb-false, le-leb}
 use lib.Dec.{leb, eqb}
-use lib.ListN.{length}
+use lib.ListN.{length, getD}
 use Rattle.bits.specs.Texts.{bytesFor}
 use Rattle.bits.proofs.Texts.{bytesFor-whole}
+use Rattle.digits.specs.Texts.{decimalText, digit}
 use Rattle.rules.specs.declared.Mode.{Mode}
 use Rattle.rules.specs.declared.Direction.{Direction}
 use Rattle.rules.specs.Lengths.{unitLengthOk, counterLengthOk, wholeUnits}
@@ -24,7 +25,7 @@ use Rattle.modes.proofs.OpeningLaws.{opened-good}
 use Rattle.rules.proofs.LengthLaws.{whole-block}
 use Rattle.grammar.specs.Grammar.{Request, request}
 use Rattle.grammar.proofs.SizeLaws.{message-size}
-use Rattle.lines.specs.Answer.{lineOf, fedLine, requestLine, answerTo, answerBytes, Printed, accepted, key-refused, iv-refused, n-refused, bits-refused, form-refused, PrintsOneOfSix}
+use Rattle.lines.specs.Answer.{lineOf, fedLine, requestLine, answerTo, answerBytes, Printed, accepted, key-refused, iv-refused, n-refused, bits-refused, form-refused, PrintsOneOfSix, NotFormedExactly}
 
 -- ---- the questions of the feed
 
@@ -56,43 +57,61 @@ first-feed mode dir n key iv bytes taken few =
 
 -- ---- the line
 
+-- Of a text of the form. The second byte is a space or a line feed; in the line of 12 it is the digit 2.
+abbrev FormedLine : List ℕ → Type 0
+FormedLine line = Printed line × (getD line 1 0 ≤ 32)
+
 fed-line : (mode : Mode) (dir : Direction) (n : ℕ) (key iv message : List ℕ) → OpeningTaken mode n 128 key iv → length message ≤ 4096
-    → Printed (fedLine (openedSession mode dir n 128 key iv) message)
-unfolding fedLine lineOf
+    → FormedLine (fedLine (openedSession mode dir n 128 key iv) message)
+unfolding fedLine lineOf decimalText digit
 fed-line mode dir n key iv message taken few =
     rw (first-feed mode dir n key iv (length message) taken few) (by-units (wholeUnits mode n (length message * 8)) _)
   where
-    by-units : (t : Bool) (bytes : List ℕ) → Printed (lineOf (cond t 0 7) bytes)
-    by-units true bytes = accepted bytes
-    by-units false bytes = bits-refused
+    by-units : (t : Bool) (bytes : List ℕ) → FormedLine (lineOf (cond t 0 7) bytes)
+    by-units true bytes = (accepted bytes, omega arith)
+    by-units false bytes = (bits-refused, omega arith)
 
 -- The opening's number, by the answers to questions 1, 2, 3 and 14.
 abbrev opening : Bool → Bool → Bool → Bool → ℕ
 opening key iv unit counter = cond key (cond iv (cond unit (cond counter 0 14) 3) 2) 1
 
-opened-line : (key iv unit counter : Bool) → counter ≡ true → (line : List ℕ) → (opening key iv unit counter ≡ 0 → Printed line)
-    → Printed (cond (eqb (opening key iv unit counter) 0) line (lineOf (opening key iv unit counter) []))
+opened-line : (key iv unit counter : Bool) → counter ≡ true → (line : List ℕ) → (opening key iv unit counter ≡ 0 → FormedLine line)
+    → FormedLine (cond (eqb (opening key iv unit counter) 0) line (lineOf (opening key iv unit counter) []))
+unfolding lineOf decimalText digit
 opened-line true true true true good line fed = fed refl
 opened-line true true true false good line fed = absurd (let z : _≡_ {A = ℕ} 0 1 = cc in omega arith)
-opened-line true true false counter good line fed = n-refused
-opened-line true false unit counter good line fed = iv-refused
-opened-line false iv unit counter good line fed = key-refused
+opened-line true true false counter good line fed = (n-refused, omega arith)
+opened-line true false unit counter good line fed = (iv-refused, omega arith)
+opened-line false iv unit counter good line fed = (key-refused, omega arith)
 
 abbrev first-answer : List Question → Bool
 first-answer [] = true
 first-answer (q ∷ qs) = q .yes
 
-request-line : (q : Request) → length (q .message) ≤ 4096 → Printed (requestLine q)
+request-line : (q : Request) → length (q .message) ≤ 4096 → FormedLine (requestLine q)
 unfolding requestLine openNumber openQuestions ask
 request-line q few =
     opened-line (first-answer (openQuestions (q .mode) (q .n) 128 (q .key) (q .iv))) (ivOk (q .mode) (q .iv)) (unitLengthOk (q .mode) (q .n)) (counterLengthOk (q .mode) 128) (whole-block (q .mode)) _
     (λ zero. fed-line (q .mode) (q .direction) (q .n) (q .key) (q .iv) (q .message) (opening-taken (q .mode) (q .n) 128 (q .key) (q .iv) zero) few)
 
-answered : (o : Option Request) → ((q : Request) → o ≡ some q → length (q .message) ≤ 4096) → Printed (answerTo o)
+-- The form bounds the data.
+abbrev Few : Option Request → Type 0
+Few o = (q : Request) → o ≡ some q → length (q .message) ≤ 4096
+
+answered : (o : Option Request) → Few o → Printed (answerTo o)
 unfolding answerTo
 answered none few = form-refused
-answered (some q) few = request-line q (few q refl)
+answered (some q) few = request-line q (few q refl) .0
 
 pub prints-one-of-six : PrintsOneOfSix
 unfolding PrintsOneOfSix answerBytes
 prints-one-of-six input = answered (request input) (λ q e. message-size input e)
+
+only-without-form : (line : List ℕ) → getD line 1 0 ≡ 50 → (o : Option Request) → Few o → answerTo o ≡ line → o ≡ none
+unfolding answerTo
+only-without-form line two none few e = refl
+only-without-form line two (some q) few e = absurd (let low : getD line 1 0 ≤ 32 = rw e at (request-line q (few q refl) .1) in omega arith)
+
+pub not-formed-exactly : NotFormedExactly
+unfolding NotFormedExactly answerBytes answerTo lineOf decimalText digit
+not-formed-exactly input = (only-without-form _ refl (request input) (λ q e. message-size input e), λ without. rw without refl)

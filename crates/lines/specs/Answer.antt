@@ -1,7 +1,8 @@
--- Document 01, "The text program": what it prints, for every input. The form is asked before all else, then it opens, then it
--- feeds all the data's bits at once, into as many bytes as the data has.
+-- Document 01, "The text program": what it prints, for every input. The form is asked before all else, then it opens,
+-- then it feeds all the data's bits at once, into as many bytes as the data has.
 use Prim.Native.Nat.{ℕ, _*_}
 use mathlib.Core.Path.{_≡_}
+use mathlib.Core.Logic.{_↔_}
 use mathlib.Core.Bool.{true, cond}
 use mathlib.Core.List.{List, [], _∷_, _++_}
 use mathlib.Core.Option.{Option, none, some}
@@ -42,12 +43,12 @@ answerBytes input = answerTo (request input)
 unfoldable pub FrontDecides : Type 0
 FrontDecides = (input : List ℕ) → answerBytes (take 8462 input) ≡ answerBytes input
 
--- Where reading has ended, the answer is 12 whatever would come behind.
+-- Where reading has ended, the answer is 12 whatever would follow.
 unfoldable pub EndDecides : Type 0
 EndDecides = (front more : List ℕ) → readingEnds front ≡ true → answerBytes (front ++ more) ≡ lineOf notFormed []
 
--- What may be printed: 0 with bytes, or alone the number of question 1, 2, 3, 7 or 12. A session just opened, fed all the data into as
--- much room, meets no other 'no'.
+-- What may be printed: 0 with bytes, or alone the number of question 1, 2, 3, 7 or 12. A session just opened, fed all
+-- the data into as much room, meets no other 'no'.
 pub data Printed : List ℕ → Type 0 where
   accepted : (bytes : List ℕ) → Printed (lineOf 0 bytes)
   key-refused : Printed (lineOf 1 [])
@@ -58,6 +59,10 @@ pub data Printed : List ℕ → Type 0 where
 
 unfoldable pub PrintsOneOfSix : Type 0
 PrintsOneOfSix = (input : List ℕ) → Printed (answerBytes input)
+
+-- 12 is answered exactly where the text does not have the form.
+unfoldable pub NotFormedExactly : Type 0
+NotFormedExactly = (input : List ℕ) → (answerBytes input ≡ lineOf notFormed []) ↔ (request input ≡ none)
 
 -- A text written to the front of `out`: how long it is, and the bytes past it as they were.
 pub record Wrote (text out : List ℕ) (r : ℕ) (after : List ℕ) : Type 0 where

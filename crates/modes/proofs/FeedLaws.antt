@@ -1,5 +1,5 @@
--- Demand 1 for one feed: a refused one changes nothing, an accepted one exactly the named bytes; and the runs that it made. Assumes
--- nothing.
+-- Demand 1 for one feed: a refused one changes nothing, an accepted one exactly the named bytes; and the runs that it
+-- made. Assumes nothing.
 use Prim.Native.Nat.{ℕ, _+_, _%_, _≤_}
 use mathlib.Core.Path.{_≡_, refl, sym, ap, _∙_}
 use mathlib.Core.Bool.{Bool, true, false, cond, not}

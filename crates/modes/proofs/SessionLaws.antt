@@ -1,5 +1,5 @@
--- A session that may be fed: what it makes of a text is as long as the text, it stays such a session, and a text in two parts is
--- as the two fed one after the other. Assumes nothing.
+-- A session that may be fed: what it makes of a text is as long as the text, it stays such a session, and a text in two
+-- parts is as the two fed one after the other. Assumes nothing.
 use Prim.Native.Nat.{ℕ, _*_, _%_, _<_}
 use mathlib.Core.Path.{_≡_, refl}
 use mathlib.Core.Bool.{Bool, true, false}

@@ -1,5 +1,5 @@
--- Units read from bytes and written to bytes: what the window over the input reads is the unit, and each written unit goes
--- behind those before it. Assumes nothing.
+-- Units read from bytes and written to bytes: what the window over the input reads is the unit, and each written unit
+-- goes after those before it. Assumes nothing.
 use Prim.Native.Nat.{ℕ, zero, suc, _+_, _-_, _*_, _/_, _%_, _≤_, _<_, min}
 use mathlib.Core.Path.{_≡_, refl, sym, ap, ap₂, _∙_}
 use mathlib.Core.Bool.{Bool, true}
@@ -162,7 +162,7 @@ fewer : (a b : ℕ) → a ≤ b → bytesFor a ≤ bytesFor b
 unfolding bytesFor
 fewer a b h = omega arith
 
--- A unit's bits go behind those before it.
+-- A unit's bits go after those before it.
 pub put-next : (x s : List Bool) (old : List ℕ) (at : ℕ) {out after : List ℕ} → length x ≡ at → out ≡ pack x ++ drop (bytesFor (length x)) old → after ≡ putBits out at s
     → after ≡ pack (x ++ s) ++ drop (bytesFor (length (x ++ s))) old
 put-next x s old at e o p =

@@ -1,5 +1,5 @@
--- Bytes written into an output from a place on: what is before and behind them stays, they hold the text, and their spare bits
--- are 0. Assumes nothing.
+-- Bytes written into an output from a place on: what is before and after them stays, they hold the text, and their
+-- spare bits are 0. Assumes nothing.
 use Prim.Native.Nat.{ℕ, _+_, _-_, _*_, _≤_, _<_}
 use mathlib.Core.Path.{_≡_, _∙_}
 use mathlib.Core.Bool.{Bool, false}

@@ -37,8 +37,8 @@ RefusedUnchanged =
     (s : Session) (input : List ℕ) (count : ℕ) (out : List ℕ) (place : ℕ) (r : Fed) (after : List ℕ)
     → FedBy s input count out place r after → (r .number ≡ 0 → ⊥) → (r .session ≡ s) × (after ≡ out)
 
--- Accepted means exactly the named bytes: `bytesFor count` of them, from `place` on, with the text in their first bits and 0 in
--- the spare ones; every byte before and after keeps its value.
+-- Accepted means exactly the named bytes: `bytesFor count` of them, from `place` on, with the text in their first bits
+-- and 0 in the spare ones; every byte before and after keeps its value.
 pub record ExactlyTheNamed (s : Session) (input : List ℕ) (count : ℕ) (out : List ℕ) (place : ℕ) (after : List ℕ) : Type 0 where
   pub same-size : length after ≡ length out
   pub before : take place after ≡ take place out
@@ -63,7 +63,8 @@ ClosesAfterShort =
     (s : Session) (input : List ℕ) (count : ℕ) (out : List ℕ) (place : ℕ) (r : Fed) (after : List ℕ)
     → FedBy s input count out place r after → r .number ≡ 0 → (r .session .closed ≡ true) ↔ (count % s .n ≡ 0 → ⊥)
 
--- 9 in time: a feed that would lead past the limit is answered 9, or by a question before that one. Question 15 is not reached.
+-- 9 in time: a feed that would lead past the limit is answered 9, or by a question before that one. Question 15 is not
+-- reached.
 unfoldable pub PastTheLimit : Type 0
 PastTheLimit =
     (s : Session) (bytes count size place : ℕ) → maxUnits < s .units + unitsIn (s .n) count

@@ -1,4 +1,5 @@
--- What open and feed give, for all arguments: the number, the session, every byte of the output, and the runs of the block cipher.
+-- What open and feed give, for all arguments: the number, the session, every byte of the output, and the runs of the
+-- block cipher.
 use Prim.Native.Nat.{ℕ, _+_, _%_}
 use mathlib.Core.Path.{_≡_}
 use mathlib.Core.Bool.{Bool, true, false, cond, not}
@@ -49,7 +50,7 @@ pub record OpenedBy (mode : Mode) (dir : Direction) (n m : ℕ) (key iv : List �
 unfoldable pub fedText : List ℕ → ℕ → List Bool
 fedText input count = take count (bits input)
 
--- What a session makes of a text, and its register after so many units of it.
+-- What a session makes of a text, and its register after t units of it.
 unfoldable pub sessionText : Session → List Bool → List Bool
 sessionText s x = worked (Enc (s .rounds) (s .keys)) (Dec (s .rounds) (s .keys)) (s .mode) (s .direction) (s .n) (s .m) (s .register) x
 
@@ -61,7 +62,7 @@ unfoldable pub feedNumberWithin : ℕ → Session → ℕ → ℕ → ℕ → �
 feedNumberWithin limit s bytes count size place =
     ask (feedQuestions limit (s .mode) (s .rounds) (s .n) (s .m) (s .closed) (s .units) bytes count size place)
 
--- A session whose register was moved by so many bits: their units are counted, and a short one closes it.
+-- A session whose register was moved by `count` bits: their units are counted, and a short one closes it.
 abbrev pub movedSession : Session → List ℕ → ℕ → Session
 movedSession s register count =
     record {

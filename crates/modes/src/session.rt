@@ -21,8 +21,8 @@ pub struct Session {
     pub closed: bool,
 }
 
-// What an opening and a feed give: the number, 0 or that of the first question answered 'no', and the session. Of a feed also the
-// runs of the block cipher that it made.
+// What an opening and a feed give: the number, 0 or that of the first question answered 'no', and the session. Of a
+// feed also the runs of the block cipher that it made.
 pub struct Opened {
     pub number: u8,
     pub session: Session,
@@ -105,7 +105,7 @@ impl Session {
         Opened { number: 0, session }
     }
 
-    // The session after an accepted feed of so many bits, which left R as `register`.
+    // The session after an accepted feed of `bits` bits, which left R as `register`.
     fn moved(self, register: [u8; 16], bits: usize) -> Session
         requires { ⌜ (0 < self .n) × (self .units + unitsIn (self .n) bits ≤ maxUnits) ⌝ }
         ensures { λ r. ⌜ r ≡ movedSession self register bits ⌝ }

@@ -21,7 +21,7 @@ fn smaller(a: usize, b: usize) -> usize
     if a < b { a } else { b }
 }
 
-// Works unit t of the session from R before it, on the part of the input that begins at the byte holding the unit's first bit.
+// Processes the feed's unit t from R before it, on the part of the input that begins at the byte holding its first bit.
 fn work_unit(
     session: Session,
     prepared: &Prepared,
@@ -52,7 +52,7 @@ fn work_unit(
     }
 }
 
-// Works all units, one after the other, by what was prepared, and adds up their runs.
+// Processes all units, one after the other, by what was prepared, and adds up their runs.
 fn work_units(
     session: Session,
     prepared: &Prepared,
@@ -84,8 +84,8 @@ fn work_units(
     done
 }
 
-// Works the first `bits` bits of `input`, writes what they become from the first bit of `out` on, and gives the session's register
-// after them, with the runs of the block function. What that needs is prepared once.
+// Processes the first `bits` bits of `input`, writes what they become from the first bit of `out` on, and gives the
+// session's register after them, with the runs of the block function. What that needs is prepared once.
 pub fn work(session: Session, input: &[u8], bits: usize, out: &mut [u8]) -> Progress
     requires { ⌜ Workable (session .mode) (session .n) (now input) bits (now out) × (roundsOk (session .rounds) ≡ true) ⌝ }
     ensures { λ r. ⌜ Worked (session .mode) (session .direction) (session .n) (session .m) (session .rounds) (session .keys) (session .register) (now (input .entry)) bits (now (out .entry)) r (now (out .exit)) ⌝ }

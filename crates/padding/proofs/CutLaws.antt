@@ -29,7 +29,7 @@ module _ (x : List Bool) where
         one-there = λ inside. sym (getD-drop m x last false) ∙ one-found-at (drop m x) 128 last (omega arith);
       }
 
-  -- a later cut would be at a 1, which stands behind the earlier one
+  -- a later cut would be at a 1, which stands after the earlier one
   no-later : (k l : ℕ) → Cut x k → Cut x l → k < l → k ≡ l
   no-later k l a b less =
       let one = b .one-there (omega arith) in

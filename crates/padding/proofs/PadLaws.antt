@@ -39,7 +39,7 @@ length-fed s count h = length-take-le count (bits s) (rw length-bits (omega arit
 pub padded-bytes : (s : List ℕ) (count : ℕ) → count ≤ 8 * length s → length (pack (padded (fedText s count))) ≡ bytesFor (paddedLength count)
 padded-bytes s count h = rw (length-pack, length-padded, length-fed s count h)
 
--- ---- a 1 bit and 0 bits behind a text
+-- ---- a 1 bit and 0 bits after a text
 
 take-replicate : (n k : ℕ) → n ≤ k → take n (replicate k false) ≡ replicate n false
 take-replicate zero k h = refl

@@ -14,7 +14,7 @@ use Rattle.padding.specs.declared.strip.Unpadded.{Unpadded}
 
 -- ---- pad
 
--- The 0 bits behind the 1 bit of a text of n bits: the fewest that reach a multiple of 128.
+-- The 0 bits after the 1 bit of a text of n bits: the fewest that reach a multiple of 128.
 unfoldable pub zerosFor : ℕ → ℕ
 zerosFor n = 127 - n % 128
 
@@ -42,8 +42,8 @@ pub record PaddedBy (input : List ℕ) (count : ℕ) (out : List ℕ) (place : �
 
 -- ---- unpad
 
--- From the end of the first k bits of a text, 0 bits are passed up to the first 1 bit: how many bits stand up to that 1, itself
--- included. 0 where all are 0.
+-- From the end of the first k bits of a text, 0 bits are passed up to the first 1 bit: how many bits stand up to that
+-- 1, itself included. 0 where all are 0.
 unfoldable pub upToLastOne : List Bool → ℕ → ℕ
 upToLastOne x zero = 0
 upToLastOne x (suc k) = let rest = upToLastOne x k in cond (getD x k false) (suc k) rest
@@ -52,8 +52,8 @@ upToLastOne x (suc k) = let rest = upToLastOne x k in cond (getD x k false) (suc
 unfoldable pub lastBlock : List Bool → List Bool
 lastBlock x = drop (length x - 128) x
 
--- All bits before the last block, and in it those before its last 1. That is none where the block is all 0, as it is none where it
--- is 80 and fifteen 00: `pred` of 0 and of 1 is 0.
+-- All bits before the last block, and in it those before its last 1. That is none where the block is all 0, as it is
+-- none where it is 80 and fifteen 00: `pred` of 0 and of 1 is 0.
 unfoldable pub unpaddedLength : List Bool → ℕ
 unpaddedLength x = (length x - 128) + pred (upToLastOne (lastBlock x) 128)
 

@@ -70,7 +70,8 @@ UnpadAccepts = (input : List ℕ) (count : ℕ) (u : Unpadded) → UnpaddedBy in
 unfoldable pub UnpadInLastBlock : Type 0
 UnpadInLastBlock = (input : List ℕ) (count : ℕ) (u : Unpadded) → UnpaddedBy input count u → u .number ≡ 0 → (u .bits < count) × (count ≤ u .bits + 128)
 
--- What is cut off is padding and nothing else: 0 bits behind a 1, or a whole last block of 0 bits. One length only is such a cut.
+-- What is cut off is padding and nothing else: 0 bits after a 1, or a whole last block of 0 bits. One length only is
+-- such a cut.
 pub record Cut (x : List Bool) (k : ℕ) : Type 0 where
   pub before-end : k < length x
   pub in-last-block : length x ≤ k + 128
@@ -89,8 +90,9 @@ UnpadByLastBlock =
     → count ≤ 8 * length s → count ≤ 8 * length t → lastBlock (fedText s count) ≡ lastBlock (fedText t count)
     → (u .number ≡ v .number) × (u .bits ≡ v .bits)
 
--- A last block of 0 bits is answered as 80 and fifteen 00 there is. It is accepted where the blocks are whole and no more than the
--- largest feed's, and the answer is all bits before it, whatever these are and whatever stands after the text.
+-- A last block of 0 bits is answered as 80 and fifteen 00 there is. It is accepted where the blocks are whole and no
+-- more than the largest feed's, and the answer is all bits before it, whatever these are and whatever stands after the
+-- text.
 pub record AnsweredAs80 (before : List ℕ) (u v : Unpadded) : Type 0 where
   pub same-number : u .number ≡ v .number
   pub same-bits : u .bits ≡ v .bits

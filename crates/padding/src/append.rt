@@ -1,4 +1,4 @@
-// Pad: one 1 bit behind the text, then the fewest 0 bits that reach a multiple of 128.
+// Pad: one 1 bit after the text, then the fewest 0 bits that reach a multiple of 128.
 use modes::Session;
 use questions::BLOCK_BITS;
 ghost use mathlib.Core.Path.{_≡_};

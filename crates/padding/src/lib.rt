@@ -1,4 +1,5 @@
-// Padding (document 01, "Padding, one block, comparison"): pad a text to whole blocks, and find the text in a padded one.
+// Padding (document 01, "Padding, one block, comparison"): pad a text to whole blocks, and find the text in a padded
+// one.
 mod append;
 mod strip;
 

@@ -13,8 +13,8 @@ pub struct Unpadded {
     pub bits: usize,
 }
 
-// How many bits at a block's end are padding: its last 1 and the 0 bits behind that. Where the first bit alone may be 1, all 128 are,
-// and that bit is not looked at: a block of 0 bits is read as 80 and fifteen 00.
+// How many bits at a block's end are padding: its last 1 and the 0 bits after that. Where the first bit alone may be 1,
+// all 128 are, and that bit is not looked at: a block of 0 bits is read as 80 and fifteen 00.
 fn padding_bits(block: [u8; 16]) -> usize
     ensures { λ r. ⌜ r ≡ 128 - pred (upToLastOne (bits block) 128) ⌝ }
 {
@@ -45,8 +45,8 @@ fn unpad_number(bytes: usize, bits: usize) -> u8
     0
 }
 
-// How many bits of a padded text, the first `bits` bits of `input`, stand before its padding. The last 128 of them are read, and
-// nothing else.
+// How many bits of a padded text, the first `bits` bits of `input`, stand before its padding. The last 128 of them are
+// read, and nothing else.
 pub fn unpad(input: &[u8], bits: usize) -> Unpadded
     ensures { λ r. ⌜ UnpaddedBy (now (input .entry)) bits r ⌝ }
 {

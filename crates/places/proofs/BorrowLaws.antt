@@ -37,7 +37,7 @@ module _ (y x w span : ℕ) (some : 0 < span) (bit : w ≤ 1) where
         lent = omega arith;
       }
 
--- ---- the bytes behind it
+-- ---- the bytes after it
 
 -- `zs` are the bytes ys - xs in their lowest m bits, and w is what they borrow.
 pub record Subtracted (m : ℕ) (xs ys zs : List ℕ) (w : ℕ) : Type 0 where
@@ -98,7 +98,7 @@ module _ {m : ℕ} {xs ys zs : List ℕ} {w : ℕ} (q : Subtracted m xs ys zs w)
 front : {A : Type 0} (l : List A) (i : ℕ) (a : A) → i < length l → drop i (set l i a) ≡ a ∷ drop (suc i) l
 front l i a h = rw (drop-cons (set l i a) i a (lt-length-set l i a h), getD-set-same l i a a h, drop-set-lt (suc i) l i a (omega arith))
 
--- behind the last byte
+-- after the last byte
 pub start : {m : ℕ} {iv block : List ℕ} → Block iv → Block block → Subtracted m (drop 16 iv) (drop 16 block) [] 0
 start {m} hiv hblock = rw (nothing-left hiv, nothing-left hblock) (none m)
 

@@ -1,4 +1,5 @@
--- The first byte of a number, where the lowest m bits count: what it is worth above them, and among them. Assumes nothing.
+-- The first byte of a number, where the lowest m bits count: what it is worth above them, and among them. Assumes
+-- nothing.
 use mathlib.Core.Path.{_≡_, refl, sym}
 use mathlib.Core.List.{List, [], _∷_}
 use Prim.Native.Nat.{ℕ, zero, suc, _+_, _-_, _*_, _/_, _%_, _^_, _<_, min}
@@ -29,7 +30,7 @@ byte-low {b} l j =
     (λ more e. rw (e, mod-eq-of-lt l) (sym (mod-eq-of-lt (omega (arith, pow-mono more)))))
     (λ few e. rw e)
 
--- A byte b, and a number n behind it, of w bits. None of the byte's bits counts:
+-- A byte b, and a number n after it, of w bits. None of the byte's bits counts:
 none-above : (m w e b n : ℕ) → w ≡ e + m → (b * 2 ^ w + n) / 2 ^ m ≡ b * 2 ^ e + n / 2 ^ m
 none-above m w e b n long = rw (long, pow-add 2 e m, ← mul-assoc, mul-add-div-right (pow-pos m))
 
@@ -37,7 +38,7 @@ none-among : (m w e b n : ℕ) → w ≡ e + m → (b * 2 ^ w + n) % 2 ^ m ≡ n
 none-among m w e b n long = rw (long, pow-add 2 e m, ← mul-assoc, mul-add-mod-self-right)
 
 module _ (m w : ℕ) {b n : ℕ} (byte : b < 256) (bits : n < 2 ^ w) where
-  -- all bits behind it count, and j of its own
+  -- all bits after it count, and j of its own
   all-above : (j : ℕ) → m ≡ w + j → (b * 2 ^ w + n) / 2 ^ m ≡ b / 2 ^ j
   all-above j long = rw (long, ← shr-shr (b * 2 ^ w + n) w j, high b w bits)
 

@@ -1,4 +1,5 @@
--- The numbers of a session's registers in the message: each is the session's R, or the opening's IV, counted up. Assumes nothing.
+-- The numbers of a session's registers in the message: each is the session's R, or the opening's IV, counted up.
+-- Assumes nothing.
 use mathlib.Core.Path.{_≡_, refl, sym, ap, _∙_}
 use mathlib.Core.List.{List}
 use Prim.Native.Nat.{ℕ, _^_, _<_, _≤_}

@@ -1,4 +1,5 @@
--- The promises of request 06: what counting up from the IV does to its two parts, against the questions and the answer. Assumes nothing.
+-- The promises of request 06: what counting up from the IV does to its two parts, against the questions and the answer.
+-- Assumes nothing.
 use mathlib.Core.Path.{_≡_, refl, sym, ap, ap₂, _∙_}
 use mathlib.Core.Bool.{Bool, true, false}
 use mathlib.Core.List.{List}

@@ -1,5 +1,5 @@
--- Question 16, byte by byte from the first one on: two blocks agree above their lowest m bits exactly where each two bytes agree above
--- those that count. Assumes nothing.
+-- Question 16, byte by byte from the first one on: two blocks agree above their lowest m bits exactly where each two
+-- bytes agree above those that count. Assumes nothing.
 use mathlib.Core.Path.{_≡_, sym, ap₂, _∙_}
 use mathlib.Core.Bool.{true, false}
 use mathlib.Core.List.{List, _∷_}

@@ -1,4 +1,5 @@
--- Request 06: what an answer says of counting up, for every m together. Counting is `increment` of request 05, repeated (`counter`).
+-- Request 06: what an answer says of counting up, for every m together. Counting is `increment` of request 05, repeated
+-- (`counter`).
 use Prim.Native.Nat.{ℕ, _^_, _≤_, _<_}
 use mathlib.Core.Path.{_≡_}
 use mathlib.Core.List.{List, []}
@@ -50,8 +51,8 @@ NumbersTold = (iv block : List ℕ) (m : ℕ) (r : Place) → Block iv → Block
 
 -- ---- a session's blocks
 
--- From any session in CTR, whoever made it, over a list of feeds, refused ones included: the register before unit t from there on, with the
--- session's R for the IV, answers t.
+-- From any session in CTR, whoever made it, over a list of feeds, refused ones included: the register before unit t
+-- from there on, with the session's R for the IV, answers t.
 unfoldable pub RegistersTell : Type 0
 RegistersTell =
     (s end : Session) (calls : List Call) (t : ℕ) (r : Place) → s .mode ≡ Ctr → Arrays s → Feeds s calls end → t < length (registersUsed s calls)
@@ -64,7 +65,8 @@ OpenedRegistersTell =
     → Bytes key → Bytes iv → OpenedBy Ctr dir n m key iv opened → opened .number ≡ 0 → Feeds (opened .session) calls s → t < s .units
     → ToldBy iv (getD (registersUsed (opened .session) calls) t []) m r → Answers r t
 
--- So does the session's own R, which is the register before the next unit: it answers the units done, while fewer than 2^m are.
+-- So does the session's own R, which is the register before the next unit: it answers the units done, while fewer than
+-- 2^m are.
 unfoldable pub NextRegisterTells : Type 0
 NextRegisterTells =
     (dir : Direction) (n m : ℕ) (key iv : List ℕ) (opened : Opened) (calls : List Call) (s : Session) (r : Place)

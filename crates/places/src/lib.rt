@@ -1,12 +1,13 @@
-// From a counter block back to its number in the message: how many increments of the IV, in its lowest m bits, give the block.
+// From a counter block back to its number in the message: how many increments of the IV, in its lowest m bits, give the
+// block.
 use rules::Mode;
 ghost use mathlib.Core.Path.{_≡_};
 ghost use Prim.Native.Nat.{_-_, _*_, _^_, _≤_, _<_, min};
 ghost use Rattle.bits.specs.Counter.{numberBytes};
 ghost use Rattle.places.specs.Answers.{upperSame, ofBlockNumber, incrementsBetween, Minus, ToldBy};
 
-// The number, 0 or that of the first question answered 'no', and how many increments there are: a number of 16 bytes, highest
-// first, and 0 where it is refused.
+// The number, 0 or that of the first question answered 'no', and how many increments there are: a number of 16 bytes,
+// highest first, and 0 where it is refused.
 pub struct Place {
     pub number: u8,
     pub increments: [u8; 16],
@@ -62,7 +63,8 @@ struct Digit {
     borrow: u32,
 }
 
-// y - x - borrow in the bits that count, modulo span. A span is added first, and is kept where nothing has to be borrowed.
+// y - x - borrow in the bits that count, modulo span. A span is added first, and is kept where nothing has to be
+// borrowed.
 fn minus(y: u8, x: u8, borrow: u32, span: u32) -> Digit
     requires { ⌜ (0 < span) × (span ≤ 256) × (borrow ≤ 1) ⌝ }
     ensures { λ r. ⌜ Minus y x borrow span r ⌝ }

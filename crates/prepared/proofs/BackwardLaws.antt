@@ -1,5 +1,5 @@
--- Decryption: the equivalent inverse cipher of FIPS 197 section 5.3.5, on columns in the order 0, 3, 2, 1, is the inverse cipher.
--- InvMixColumns goes through AddRoundKey, and the mirror through every step. Assumes nothing.
+-- Decryption: the equivalent inverse cipher of FIPS 197 section 5.3.5, on columns in the order 0, 3, 2, 1, is the
+-- inverse cipher. InvMixColumns goes through AddRoundKey, and the mirror through every step. Assumes nothing.
 use mathlib.Core.Path.{_≡_, refl, sym, ap, ap₂, _∙_}
 use mathlib.Core.Bool.{true}
 use mathlib.Core.List.{List}

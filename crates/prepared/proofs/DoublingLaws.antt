@@ -1,4 +1,5 @@
--- The multiples of bytes that the matrices hold, by doublings: the entries of the table, and InvMixColumns of a word. Assumes nothing.
+-- The multiples of bytes that the matrices hold, by doublings: the entries of the table, and InvMixColumns of a word.
+-- Assumes nothing.
 use mathlib.Core.Path.{_≡_, refl, sym, ap, _∙_}
 use mathlib.Core.Bool.{true, false}
 use mathlib.Core.List.{List, [], _∷_, map}

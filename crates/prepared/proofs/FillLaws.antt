@@ -1,4 +1,5 @@
--- A loop that stores one word a turn: the words that it has stored follow a rule, and the others are as they were, or zero. Assumes nothing.
+-- A loop that stores one word a turn: the words that it has stored follow a rule, and the others are as they were, or
+-- zero. Assumes nothing.
 use mathlib.Core.Path.{_≡_, refl, sym, ap, _∙_}
 use mathlib.Core.Bool.{Bool, true, false, cond}
 use mathlib.Core.List.{List}
@@ -19,7 +20,7 @@ held-none rule words = record { word = λ i h. absurd (omega arith) }
 pub held-all : {i n : ℕ} {rule : ℕ → List ℕ} {words : List ℕ} → n ≤ i → Holds i rule words → Holds n rule words
 held-all p h = record { word = λ j hj. h .word j (omega arith) }
 
--- behind what follows a rule, one part more that does
+-- after what follows a rule, one part more that does
 pub held-more : {a b : ℕ} {rule part : ℕ → List ℕ} {before after : List ℕ} → Holds a rule before → Filled a b part before after
     → ((i : ℕ) → a ≤ i → i < b → part i ≡ rule i) → Holds b rule after
 held-more {a} {b} {rule} {part} {before} {after} h f same = record { word = λ i hi. go i hi (ltb i a) refl }

@@ -1,5 +1,5 @@
--- The tables: that of the last round holds the substitution; in the other each part is the one before it turned by one place, and
--- a round by it is the round of FIPS 197, which keeps bytes. Assumes nothing.
+-- The tables: that of the last round holds the substitution; in the other each part is the one before it turned by one
+-- place, and a round by it is the round of FIPS 197, which keeps bytes. Assumes nothing.
 use mathlib.Core.Path.{_≡_, refl, sym, ap, ap₂, _∙_}
 use mathlib.Core.Bool.{Bool, true, false}
 use mathlib.Core.List.{List, [], _∷_}

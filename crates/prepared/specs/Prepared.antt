@@ -1,4 +1,5 @@
--- What is prepared, and what it is for. A crate above names `preparedBlock` alone, and knows of it what `PreparedFor` says.
+-- What is prepared, and what it is for. A crate above names `preparedBlock` alone, and knows of it what `PreparedFor`
+-- says.
 use Prim.Native.Nat.{ℕ}
 use mathlib.Core.Path.{_≡_}
 use mathlib.Core.Bool.{Bool, cond}

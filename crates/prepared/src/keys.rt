@@ -78,7 +78,7 @@ fn copy_words(words: &[u32; 60], prepared: &mut [u32])
     }
 }
 
-// The words behind the tables.
+// The words after the tables.
 pub fn fill_words(decrypting: bool, rounds: usize, keys: &[u8; 240], prepared: &mut [u32])
     requires { ⌜ length (now prepared) ≡ 1342 ⌝ }
     ensures { λ r. ⌜ Filled 1280 1340 (λ i. wordRule decrypting rounds (now (keys .entry)) (i - 1280)) (now (prepared .entry)) (now (prepared .exit)) ⌝ }

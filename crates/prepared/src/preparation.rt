@@ -9,7 +9,7 @@ ghost use Rattle.cipher.specs.Cipher.{roundsOk};
 ghost use Rattle.prepared.specs.inner.Parts.{Filled, endRule};
 ghost use Rattle.prepared.specs.Prepared.{PreparedBy};
 
-// 0 where there is no cipher of so many rounds.
+// 0 where there is no cipher of this many rounds.
 fn rounds_word(rounds: usize) -> u32
     ensures { λ r. ⌜ r ≡ cond (roundsOk rounds) rounds 0 ⌝ }
 {

@@ -41,7 +41,7 @@ fn fill_table(decrypting: bool, last: &[u8; 256], prepared: &mut [u32])
     }
 }
 
-// The table of the last round, behind that of the others.
+// The table of the last round, after that of the others.
 fn fill_last(last: &[u8; 256], prepared: &mut [u32])
     requires { ⌜ length (now prepared) ≡ 1342 ⌝ }
     ensures { λ r. ⌜ Filled 1024 1280 (λ i. byteWord (getD (now (last .entry)) (i - 1024) 0)) (now (prepared .entry)) (now (prepared .exit)) ⌝ }

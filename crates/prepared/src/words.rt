@@ -3,8 +3,8 @@ ghost use mathlib.Core.Path.{_≡_};
 ghost use Rattle.columns.specs.inner.Words.{wordBytes};
 ghost use Rattle.prepared.specs.inner.Parts.{unmixed};
 
-// InvMixColumns of a column. Its matrix is 08 times the sum of all four bytes, 04 times that of the byte and the one across, 02 times
-// that of the byte and the next, and the other three bytes.
+// InvMixColumns of a column. Its matrix is 08 times the sum of all four bytes, 04 times that of the byte and the one
+// across, 02 times that of the byte and the next, and the other three bytes.
 pub fn unmix(x: u32) -> u32
     ensures { λ r. ⌜ wordBytes r ≡ unmixed (wordBytes x) ⌝ }
 {

@@ -3,3 +3,4 @@ pub mod TestLaws
 pub mod QuestionLaws
 pub mod ListLaws
 pub mod SentenceLaws
+pub mod BoundLaws

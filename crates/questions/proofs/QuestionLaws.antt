@@ -1,4 +1,4 @@
--- What the first 'no' tells: the number is its own, and at 0 every question was answered 'yes'. Assumes nothing.
+-- What the first 'no' says: the number is its own, and at 0 every question was answered 'yes'. Assumes nothing.
 use Prim.Native.Nat.{ℕ, _+_, _-_, _*_, _^_, _≤_, _<_}
 use mathlib.Core.Path.{_≡_, refl}
 use mathlib.Core.Bool.{Bool, true, false, cond, _&&_}

@@ -25,6 +25,7 @@ abbrev pub AllYes : List Question → Type 0
 AllYes [] = Unit {0}
 AllYes (q ∷ qs) = (q .yes ≡ true) × AllYes qs
 
--- Document 01: '0 is success'. Over any list of questions with numbers above 0: the number is 0 exactly where every answer is 'yes'.
+-- Document 01: '0 is success'. Over any list of questions with numbers above 0: the number is 0 exactly where every
+-- answer is 'yes'.
 unfoldable pub AcceptedExactly : Type 0
 AcceptedExactly = (qs : List Question) → Numbered qs → (ask qs ≡ 0) ↔ AllYes qs

@@ -1,5 +1,5 @@
--- Document 01, "Questions before work": each question is a Bool, each call has its list of them, and the first 'no' gives the
--- number.
+-- Document 01, "Questions before work": each question is a Bool, each call has its list of them, and the first 'no'
+-- gives the number.
 use Prim.Native.Nat.{ℕ, _+_, _-_, _*_, _^_}
 use mathlib.Core.Bool.{Bool, cond, not, _&&_}
 use mathlib.Core.List.{List, [], _∷_, _++_}
@@ -93,7 +93,7 @@ unitsOk limit done new = leb (done + new) limit
 abbrev pub unitLimit : ℕ → ℕ → ℕ → Question
 unitLimit limit done new = record { yes = unitsOk limit done new; number = 9 }
 
--- 12. Has it the form? The tests are others': the text program's parser, and at the boundary to C whether a number is a mode's.
+-- 12. Has the text program's input its form? The test is its parser's.
 abbrev pub notFormed : ℕ
 notFormed = 12
 

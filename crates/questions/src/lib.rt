@@ -97,7 +97,7 @@ pub fn room_ok(size: usize, place: usize, bytes: usize) -> bool
     }
 }
 
-// How many units so many bits have, a short last one included.
+// How many units this many bits have, a short last one included.
 pub fn units_in(n: usize, bits: usize) -> usize
     ensures { λ r. ⌜ r ≡ unitsIn n bits ⌝ }
 {
@@ -111,7 +111,7 @@ pub fn units_in(n: usize, bits: usize) -> usize
     whole + 1
 }
 
-// How many bytes so many bits need, rounded up.
+// How many bytes this many bits need, rounded up.
 pub fn bytes_for(bits: usize) -> usize
     ensures { λ r. ⌜ r ≡ bytesFor bits ⌝ }
 {

@@ -40,7 +40,8 @@ fn text_number(mode: Mode, n: usize, bytes: usize, bits: usize, size: usize, pla
     0
 }
 
-// Of a feed's units: questions 9 and 15. Those that 9 lets pass are fewer than 2^64, so 2^m is needed only where it is less.
+// Of a feed's units: questions 9 and 15. Those that 9 lets pass are fewer than 2^64, so 2^m is needed only where it is
+// less.
 fn units_number(m: usize, done: u64, new: usize) -> u8
     ensures { λ r. ⌜ r ≡ ask (unitQuestions maxUnits m done new) ⌝ }
 {

@@ -1,15 +1,15 @@
 // Runs a written list of calls, one to a line of standard input, and prints each call's answer as one line: a recorded
-// transmission is replayed, or a test drives lists of feeds. Bytes are lower-case hexadecimal, `-` for none; numbers are
-// decimal, zeros in front among them, and 64 bits hold them; FILL is the byte that the output holds before the call. BLOCK and R are 16
-// bytes, and of `place` IV and INCREMENTS are too; CLOSED is 0 or 1.
+// transmission is replayed, or a test drives lists of feeds. Bytes are lower-case hexadecimal, `-` for none; numbers
+// are decimal, may have leading zeros, and fit in 64 bits; FILL is the byte that the output holds before the call.
+// BLOCK and R are 16 bytes, and of `place` IV and INCREMENTS are too; CLOSED is 0 or 1.
 //
 //     open MODE N E|D KEY IV                             NUMBER, of an opening with M = 128
 //     open-counter MODE N M E|D KEY IV                   NUMBER
 //     feed BITS OUTLEN PLACE FILL INPUT                  NUMBER OUT R UNITS CLOSED RUNS
-//     session MODE N M E|D ROUNDS R UNITS CLOSED KEYS    set: every field by hand; KEYS are at most 240 bytes, and 00 those after them
+//     session MODE N M E|D ROUNDS R UNITS CLOSED KEYS    set: every field by hand; at most 240 KEYS, then 00
 //     show                                               MODE N M E|D ROUNDS R UNITS CLOSED KEYS, of the session
-//     units COUNT                                        COUNT: the session has done that many units from now on, a test's means
-//     carry                                              UNITS: the session goes through the older release's, and is carried over
+//     units COUNT                                        COUNT: so the session's units are set, for tests
+//     carry                                              UNITS: of the session, made an older one, carried over
 //     keep                                               kept: `alike` compares with this session from now on
 //     alike                                              yes or no
 //     forecast MODE N BITS                               NUMBER BYTES RUNS
@@ -23,10 +23,11 @@
 //     encrypt KEY BLOCK                                  NUMBER BLOCK
 //     decrypt KEY BLOCK                                  NUMBER BLOCK
 //
-// A session that a refused opening gave is there before the first opening and `keep`. A line of no bytes, or whose first byte is `#`,
-// is passed over and prints nothing. A line of another form prints `?` and changes nothing; so does one that is too long: INPUT, TEXT
-// and OUTLEN have at most `MAX_BYTES` bytes, and the whole line, without its line feed, `MAX_LINE` (both in the crate `script`). So
-// does `carry` where the units do not fit in the older release's 32 bits. A last line that no line feed ends counts if it is not empty.
+// A session that a refused opening gave is there before the first opening and `keep`. A line of no bytes, or whose
+// first byte is `#`, is passed over and prints nothing. A line of another form prints `?` and changes nothing; so does
+// one that is too long: INPUT, TEXT and OUTLEN have at most `MAX_BYTES` bytes, and the whole line, without its line
+// feed, `MAX_LINE` (both in the crate `script`). So does `carry` where the units do not fit in the older release's 32
+// bits. A last line that no line feed ends counts if it is not empty.
 mod archive;
 mod blocks;
 mod commands;
@@ -72,7 +73,7 @@ fn end_line(
     state: State,
 ) -> State {
     let len = state.len;
-    let next = state.with_len(0);
+    let next = state.next_line();
     if passed_over(line, len) {
         return next;
     }
@@ -83,7 +84,7 @@ fn end_line(
     }
 }
 
-// Runs each line that ends in this part of the input, and gathers what stands behind the last.
+// Runs each line that ends in this part of the input, and gathers what follows the last.
 fn run_lines(
     part: &[u8],
     line: &mut [u8],
@@ -107,14 +108,15 @@ fn run_lines(
     now
 }
 
-// Runs the part's lines, with room for the bytes of the longest line and for the longest output, and writes the answers.
+// Runs the part's lines, with room for the bytes of the longest line and for the longest output, and writes the
+// answers.
 fn run_part(part: &[u8], line: &mut [u8], text: &mut [u8; 65536], state: State) -> State {
     let mut space = [0u8; MAX_LINE / 2];
     let mut out = [0u8; MAX_BYTES];
     run_lines(part, line, &mut space, &mut out, text, state).flushed(text)
 }
 
-// What stands behind the last line feed, run as if one ended it.
+// What follows the last line feed, run as if one ended it.
 fn run_last(line: &mut [u8], text: &mut [u8; 65536], state: State) -> State {
     if state.len == 0 {
         return state.stopped();
@@ -142,8 +144,8 @@ fn run_first(
     run_part(first(part, count), line, text, state)
 }
 
-// A proved loop has to end, and nothing says that the input does. So the loop counts its turns down, from a number that no
-// run uses up.
+// A proved loop has to end, and nothing says that the input does. So the loop counts its turns down, from a number that
+// no run uses up.
 fn run_all(part: &mut [u8], line: &mut [u8], text: &mut [u8; 65536]) {
     let mut state = State::new();
     let mut turns = u64::MAX;

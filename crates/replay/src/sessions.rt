@@ -128,7 +128,7 @@ pub fn units(words: Words, text: &mut [u8; 65536], state: State) -> State {
     state.with_session(session).with_end(end)
 }
 
-// The older release's session with these parts, and so many units.
+// The older release's session with these parts, and this many units.
 fn older(session: Session, units: u32) -> Session32 {
     let mode = session.mode;
     let direction = session.direction;

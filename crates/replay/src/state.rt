@@ -1,16 +1,18 @@
 // What stays from line to line.
+use libc::STDERR_FILENO;
 use modes::Session;
 use rules::Direction;
 use rules::Mode;
 use script::print;
 
-// `kept` is the session that `alike` compares with. `len` bytes of the present line are gathered, and `end` bytes of output
-// wait to be written. `stop` says that the input has ended.
+// `kept` is the session that `alike` compares with. `len` bytes of the present line are gathered, and `end` bytes of
+// output wait to be written. `ended` lines have ended. `stop` says that the input has.
 pub struct State {
     pub session: Session,
     pub kept: Session,
     pub len: usize,
     pub end: usize,
+    pub ended: u64,
     pub stop: bool,
 }
 
@@ -24,6 +26,7 @@ impl State {
             kept: session,
             len: 0,
             end: 0,
+            ended: 0,
             stop: false,
         }
     }
@@ -43,13 +46,20 @@ impl State {
         self
     }
 
-    pub fn with_len(mut self, len: usize) -> State {
-        self.len = len;
+    // A line has ended. Past 2^64 - 1 lines the count stays.
+    pub fn next_line(mut self) -> State {
+        self.len = 0;
+        if self.ended < 18446744073709551615 {
+            self.ended += 1;
+        }
         self
     }
 
-    // The answer to a line that is of no command's form.
+    // The answer to a line that is of no command's form, which is named on standard error.
     pub fn bad(self, text: &mut [u8; 65536]) -> State {
+        io::write_all(STDERR_FILENO, b"replay: line ");
+        io::print_decimal(STDERR_FILENO, self.ended);
+        io::write_all(STDERR_FILENO, b": of no command's form\n");
         self.with_end(print::bad(text, self.end))
     }
 

@@ -1,4 +1,4 @@
--- A text worked in parts: the register after the first part starts the second, and the results join. Assumes nothing.
+-- A text processed in parts: the register after the first part starts the second; the results join. Assumes nothing.
 use Prim.Native.Nat.{ℕ, zero, suc, _+_, _*_, _≤_, _<_}
 use mathlib.Core.Path.{_≡_, refl, ap₂}
 use mathlib.Core.Bool.{Bool}

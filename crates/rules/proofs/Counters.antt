@@ -1,5 +1,5 @@
--- CTR's register is a counter block, j increments after the first: the bits above the lowest m stay, the lowest m are j more modulo
--- 2^m, and the first 2^m blocks differ. Assumes nothing.
+-- CTR's register is a counter block, j increments after the first: the bits above the lowest m stay, the lowest m are j
+-- more modulo 2^m, and the first 2^m blocks differ. Assumes nothing.
 use mathlib.Core.Path.{_≡_, refl, sym, ap, _∙_}
 use mathlib.Core.Bool.{Bool}
 use mathlib.Core.List.{List}

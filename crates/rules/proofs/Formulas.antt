@@ -1,4 +1,5 @@
--- One unit by the rules is SP 800-38A's formula for it, the register's bits standing for the chaining value. Assumes nothing.
+-- One unit by the rules is SP 800-38A's formula for it, the register's bits standing for the chaining value. Assumes
+-- nothing.
 use Prim.Native.Nat.{ℕ, _≤_}
 use mathlib.Core.Path.{_≡_, refl, sym, ap, _∙_}
 use mathlib.Core.Bool.{Bool}

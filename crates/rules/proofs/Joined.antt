@@ -26,7 +26,7 @@ pub unit-past : (n : ℕ) (x : List Bool) (t : ℕ) → length x ≤ t * n → u
 unfolding unitAt
 unit-past n x t h = rw (drop-of-length-le x h, take-nil)
 
--- Unit t behind the first k is unit k + t.
+-- Unit t of what follows the first k units is unit k + t.
 pub unit-from : (n : ℕ) (x : List Bool) (k t : ℕ) → unitAt n (drop (k * n) x) t ≡ unitAt n x (k + t)
 unfolding unitAt
 unit-from n x k t = rw (drop-drop, add-mul)

@@ -26,7 +26,7 @@ number-again (suc (suc (suc zero))) h = refl
 number-again (suc (suc (suc (suc zero)))) h = refl
 number-again (suc (suc (suc (suc (suc k))))) h = absurd (omega arith)
 
-number-below : (mode : Mode) → modeNumber mode < modes
+pub number-below : (mode : Mode) → modeNumber mode < modes
 unfolding modeNumber
 number-below Ecb = omega arith
 number-below Cbc = omega arith

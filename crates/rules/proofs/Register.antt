@@ -1,5 +1,5 @@
--- What is in the register: a block; and in CFB, after t segments, the last 128 bits of what it held and the segments, so that
--- from 128 bits on nothing of what it held is left. Assumes nothing.
+-- What is in the register: a block; and in CFB, after t segments, the last 128 bits of what it held and the segments,
+-- so that from 128 bits on nothing of what it held is left. Assumes nothing.
 use Prim.Native.Nat.{ℕ, zero, suc, _+_, _-_, _*_, _≤_, _<_}
 use mathlib.Core.Path.{_≡_, sym, ap, _∙_}
 use mathlib.Core.Bool.{Bool}
@@ -30,7 +30,7 @@ register-at-block ciphers m mode dir n block x (suc t) units =
 
 -- ---- CFB
 
--- The next n bits of x, shifted in behind the first k.
+-- The next n bits of x, shifted in after the first k.
 shifted-on : (r x : List Bool) (k n : ℕ) → n ≤ length r → k ≤ length x
     → drop n (drop k (r ++ take k x)) ++ take n (drop k x) ≡ drop (k + n) (r ++ take (k + n) x)
 shifted-on r x k n h g =

@@ -1,5 +1,5 @@
--- The unit rules give SP 800-38A's text: by the number of the unit, what the rules have in the register is the standard's
--- chaining value. Assumes nothing.
+-- The unit rules give SP 800-38A's text: by the number of the unit, what the rules have in the register is the
+-- standard's chaining value. Assumes nothing.
 use Prim.Native.Nat.{ℕ, zero, suc, _≤_, _<_}
 use mathlib.Core.Path.{_≡_, refl, ap, ap₂, _∙_}
 use mathlib.Core.Bool.{Bool, true}

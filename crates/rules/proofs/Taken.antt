@@ -1,5 +1,5 @@
--- What questions 3, 7 and 14 let through: units that are not empty, at most a block long, and each of a length that its mode's rule is for;
--- counters of 1 to 128 bits. Assumes nothing.
+-- What questions 3, 7 and 14 let through: units that are not empty, at most a block long, and each of a length that its
+-- mode's rule is for; counters of 1 to 128 bits. Assumes nothing.
 use Prim.Native.Nat.{ℕ, _+_, _*_, _%_, _≤_, _<_}
 use mathlib.Core.Path.{_≡_, refl, _∙_}
 use mathlib.Core.Bool.{Bool, true, and-eq-true-iff}

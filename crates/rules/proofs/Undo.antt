@@ -1,5 +1,5 @@
--- Whole texts: the result is as long as the text, its units are what the text's units became, and the other direction from the
--- same register goes through the same registers and gives the text back. Assumes nothing.
+-- Whole texts: the result is as long as the text, its units are what the text's units became, and the other direction
+-- from the same register goes through the same registers and gives the text back. Assumes nothing.
 use Prim.Native.Nat.{ℕ, zero, suc, _*_, _≤_, _<_, min}
 use mathlib.Core.Path.{_≡_, refl, ap, _∙_}
 use mathlib.Core.Bool.{Bool}
@@ -19,7 +19,7 @@ use Rattle.rules.proofs.Units.{out-length, out-undo, next-undo}
 use Rattle.rules.proofs.Register.{register-at-block}
 use Rattle.rules.proofs.Taken.{Taken}
 
--- A worked text from what its units become.
+-- What a text becomes, from what its units become.
 pub worked-by : (enc dec : List ℕ → List ℕ) (mode : Mode) (dir : Direction) (n m : ℕ) (r : List ℕ) (x : List Bool) (k : ℕ) (f : ℕ → List Bool)
     → unitsIn n (length x) ≡ k → ((t : ℕ) → t < k → outAt enc dec mode dir n m r x t ≡ f t) → worked enc dec mode dir n m r x ≡ joined k f
 unfolding worked

@@ -1,5 +1,5 @@
--- One unit: each direction keeps its length, undoes the other from the same register, and leaves a block in the register.
--- Assumes nothing.
+-- One unit: each direction keeps its length, undoes the other from the same register, and leaves a block in the
+-- register. Assumes nothing.
 use Prim.Native.Nat.{ℕ, _≤_}
 use mathlib.Core.Path.{_≡_, refl, sym, ap, _∙_}
 use mathlib.Core.Bool.{Bool}

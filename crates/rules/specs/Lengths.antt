@@ -22,7 +22,7 @@ counterLengthOk Cfb m = eqb m 128
 counterLengthOk Ofb m = eqb m 128
 counterLengthOk Ctr m = leb 1 m && leb m 128
 
--- Question 7: are so many bits whole units in ECB, CBC and CFB?
+-- Question 7: are this many bits whole units in ECB, CBC and CFB?
 unfoldable pub wholeUnits : Mode → ℕ → ℕ → Bool
 wholeUnits Ecb n bits = eqb (bits % n) 0
 wholeUnits Cbc n bits = eqb (bits % n) 0

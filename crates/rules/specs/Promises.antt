@@ -1,4 +1,5 @@
--- What is promised of the unit rules for any two block functions: demand 2 for whole texts, demand 3 for two ciphertexts.
+-- What is promised of the unit rules for any two block functions: demand 2 for whole texts, demand 3 for two
+-- ciphertexts.
 use Prim.Native.Nat.{ℕ, suc, _+_, _*_, _≤_, _<_}
 use mathlib.Core.Path.{_≡_}
 use mathlib.Core.Logic.{_↔_}
@@ -60,14 +61,15 @@ pub record OneBlockDamaged (x y p q : List Bool) (j : ℕ) : Type 0 where
   pub following : suc (suc j) * 128 ≤ length x → (b : ℕ) → Differ (unitAt 128 p (suc j)) (unitAt 128 q (suc j)) b ↔ Differ (unitAt 128 x j) (unitAt 128 y j) b
   pub others : (t : ℕ) → (t ≡ j → ⊥) → (t ≡ suc j → ⊥) → unitAt 128 p t ≡ unitAt 128 q t
 
--- In CFB: the segment itself differs in exactly the changed bits, and after as many segments more as replace the register all is right.
+-- In CFB: the segment itself differs in exactly the changed bits, and after as many segments more as replace the
+-- register all is right.
 pub record OneSegmentDamaged (n : ℕ) (x y p q : List Bool) (j : ℕ) : Type 0 where
   pub here : (b : ℕ) → Differ (unitAt n p j) (unitAt n q j) b ↔ Differ (unitAt n x j) (unitAt n y j) b
   pub before : (t : ℕ) → t < j → unitAt n p t ≡ unitAt n q t
   pub behind : (t : ℕ) → suc j + unitsIn n 128 ≤ t → unitAt n p t ≡ unitAt n q t
 
--- Demand 3 for two ciphertexts x and y that were decrypted from the IVs v and w, with counters of m and m′ bits, whatever came
--- before a common run.
+-- Demand 3 for two ciphertexts x and y that were decrypted from the IVs v and w, with counters of m and m′ bits,
+-- whatever came before a common run.
 module _ (enc dec : List ℕ → List ℕ) (mode : Mode) (n m m′ : ℕ) (v w : List ℕ) (x y : List Bool) where
   abbrev plainX : List Bool
   plainX = worked enc dec mode Decrypt n m (start mode v) x
@@ -86,7 +88,8 @@ module _ (enc dec : List ℕ → List ℕ) (mode : Mode) (n m m′ : ℕ) (v w :
     -- and in OFB and CTR; in CTR where m is the same
     pub same-bits : recoveryUnits mode n ≡ none → v ≡ w → (mode ≡ Ctr → m ≡ m′) → length x ≡ length y → (b : ℕ) → Differ plainX plainY b ↔ Differ x y b
 
--- What is assumed: two block functions that undo each other, a start register of 16 bytes, a unit length and texts that the mode takes.
+-- What is assumed: two block functions that undo each other, a start register of 16 bytes, a unit length and texts that
+-- the mode takes.
 unfoldable pub TextsHold : Type 0
 TextsHold =
     (enc dec : List ℕ → List ℕ) (mode : Mode) (dir : Direction) (n m : ℕ) (iv : List ℕ) (x : List Bool) → BlockCipher enc dec

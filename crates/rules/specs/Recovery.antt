@@ -5,8 +5,8 @@ use Rattle.rules.specs.declared.Mode.{Mode}
 use Rattle.rules.specs.declared.Mode.the-variants.{Ecb, Cbc, Cfb, Ofb, Ctr}
 use Rattle.rules.specs.Rules.{unitsIn}
 
--- At once in ECB, after 1 unit in CBC, after 128/n rounded up in CFB: as many segments as it takes to replace a whole register. OFB and
--- CTR have no such count and never come right: there a lost unit shifts the keystream for good.
+-- At once in ECB, after 1 unit in CBC, after 128/n rounded up in CFB: as many segments as it takes to replace a whole
+-- register. OFB and CTR have no such count and never come right: there a lost unit shifts the keystream for good.
 unfoldable pub recoveryUnits : Mode → ℕ → Option ℕ
 recoveryUnits Ecb n = some 0
 recoveryUnits Cbc n = some 1

@@ -29,7 +29,8 @@ start Ofb iv = iv
 start Ctr iv = iv
 
 module _ (enc dec : List ℕ → List ℕ) where
-  -- R after the unit whose ciphertext is C. It moves by the ciphertext, in both directions. m is the counter's bits in CTR.
+  -- R after the unit whose ciphertext is C. It moves by the ciphertext, in both directions. m is the counter's bits in
+  -- CTR.
   unfoldable pub next : Mode → ℕ → List ℕ → List Bool → List ℕ
   next Ecb m r c = r
   next Cbc m r c = pack c
@@ -68,7 +69,7 @@ module _ (enc dec : List ℕ → List ℕ) where
 unfoldable pub unitAt : ℕ → List Bool → ℕ → List Bool
 unitAt n x t = take n (drop (t * n) x)
 
--- How many units a text of so many bits has, a short last one included.
+-- How many units a text of this many bits has, a short last one included.
 unfoldable pub unitsIn : ℕ → ℕ → ℕ
 unitsIn n bits = (bits + (n - 1)) / n
 

@@ -50,8 +50,8 @@ module _ (enc dec : List ℕ → List ℕ) where
   cfbEncryptInput s p iv zero = iv
   cfbEncryptInput s p iv (suc j) = drop s (cfbEncryptInput s p iv j) ++ xorBits (p j) (msb s (ciph (cfbEncryptInput s p iv j)))
 
-  -- Block j, or segment j, of the message that the mode makes of the message with blocks `u`. In OFB and CTR a last block of
-  -- fewer bits takes as many of the output block's first bits.
+  -- Block j, or segment j, of the message that the mode makes of the message with blocks `u`. In OFB and CTR a last
+  -- block of fewer bits takes as many of the output block's first bits.
   unfoldable pub standardAt : Mode → Direction → ℕ → ℕ → List ℕ → (ℕ → List Bool) → ℕ → List Bool
   standardAt Ecb Encrypt n m iv u j = ciph (u j)
   standardAt Ecb Decrypt n m iv u j = ciphInv (u j)

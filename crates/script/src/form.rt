@@ -1,6 +1,7 @@
-// A line's words, read by the form of its command: a letter for each word after the name (kinds.rt). Words are counted as they stand in
-// the line: the name is word 0. The commands of a program are a table of words, parted by single spaces: a name and its form, `-` where
-// no word follows the name, then the next name. Commands are counted from 0. A form has at most 15 letters.
+// A line's words, read by the form of its command: a letter for each word after the name (kinds.rt). Words are counted
+// as they stand in the line: the name is word 0. The commands of a program are a table of words, separated by single
+// spaces: a name and its form, `-` for no words, then the next name. Commands are counted from 0. A form has at most 15
+// letters.
 use crate::kinds::taken;
 use crate::kinds::value;
 use crate::numbers::Number;
@@ -13,9 +14,9 @@ use crate::words::word;
 use rules::Direction;
 use rules::Mode;
 
-// A line's words. The bytes of a word stand in the space that `read` was lent, from `starts` of that word on; the other words
-// are numbers, a mode and a direction too. The first `count` words are read, the name with them, and `used` bytes. `size` and `fill`
-// are the words of kinds o and f.
+// A line's words. The bytes of a word stand in the space that `read` was lent, from `starts` of that word on; the other
+// words are numbers, a mode and a direction too. The first `count` words are read, the name with them, and `used`
+// bytes. `size` and `fill` are the words of kinds o and f.
 pub struct Words {
     pub good: bool,
     pub command: usize,
@@ -153,7 +154,8 @@ fn letters(form: &[u8]) -> &[u8] {
     }
 }
 
-// Reads the words after the name, which are good where there are as many as the form has letters, and each is of its kind.
+// Reads the words after the name, which are good where there are as many as the form has letters, and each is of its
+// kind.
 fn read_by(line: &[u8], form: &[u8], words: Words, space: &mut [u8]) -> Words {
     if words::spaces(line) != form.len() {
         return words.bad();
@@ -171,8 +173,8 @@ fn read_by(line: &[u8], form: &[u8], words: Words, space: &mut [u8]) -> Words {
     words
 }
 
-// Reads a line by the table of commands. Its words are good where it names a command and the words after the name are of that
-// command's form. A space of half the longest line holds the bytes of any line.
+// Reads a line by the table of commands. Its words are good where it names a command and the words after the name are
+// of that command's form. A space of half the longest line holds the bytes of any line.
 pub fn read(line: &[u8], table: &[u8], space: &mut [u8]) -> Words {
     let at = form_place(line, table);
     let words = Words::new(at / 2);

@@ -2,8 +2,8 @@
 use crate::numbers::Number;
 use crate::words::same;
 
-// Writes the bytes that the word spells to the front of `space`, and answers how many; `-` spells none. A word that spells more
-// than `space` holds is bad.
+// Writes the bytes that the word spells to the front of `space`, and answers how many; `-` spells none. A word that
+// spells more than `space` holds is bad.
 pub fn bytes(word: &[u8], space: &mut [u8]) -> Number {
     if same(word, b"-") {
         return Number::Value(0);

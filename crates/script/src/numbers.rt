@@ -4,7 +4,7 @@ pub enum Number {
     Bad,
 }
 
-// The number behind one more digit, b. 1844674407370955161 is the largest number whose tenfold fits.
+// The number n with one more digit, b, at its end. 1844674407370955161 is the largest number whose tenfold fits.
 fn with_digit(n: usize, b: u8) -> Number {
     if b < b'0' {
         return Number::Bad;

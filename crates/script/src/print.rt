@@ -1,5 +1,5 @@
-// Output is gathered in a text of 65,536 bytes, of which the first `end` wait to be written. Each function gives the next
-// `end`.
+// Output is gathered in a text of 65,536 bytes, of which the first `end` wait to be written. Each function gives the
+// next `end`.
 use crate::parts::first;
 use libc::STDOUT_FILENO;
 
@@ -24,7 +24,7 @@ pub fn flush(text: &[u8; 65536], end: usize) -> usize {
     0
 }
 
-// A word, and the byte that parts it from what follows.
+// A word, and the byte that separates it from what follows.
 pub fn label(text: &mut [u8; 65536], end: usize, word: &[u8], after: u8) -> usize {
     let mut at = end;
     let mut i = 0;

@@ -1,4 +1,4 @@
-// A line's words, parted by single spaces. Two spaces in a row part an empty word off, which no command takes.
+// A line's words, separated by single spaces. Between two spaces in a row is an empty word, which no command takes.
 use crate::parts::first;
 ghost use Prim.Native.Nat.{_≤_};
 ghost use lib.ListN.{length};
@@ -16,7 +16,7 @@ pub fn spaces(line: &[u8]) -> usize {
     count
 }
 
-// The index behind the k-th space, or the line's end where it has fewer.
+// The index after the k-th space, or the line's end where it has fewer.
 fn behind_spaces(line: &[u8], k: usize) -> usize
     ensures { λ r. ⌜ r ≤ length (now (line .entry)) ⌝ }
 {

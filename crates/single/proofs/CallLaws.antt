@@ -1,5 +1,5 @@
--- The single block by the calls: what it wrote and block j of what the feed wrote are both the bytes of unit j of the feed's text.
--- Assumes nothing.
+-- The single block by the calls: what it wrote and block j of what the feed wrote are both the bytes of unit j of the
+-- feed's text. Assumes nothing.
 use Prim.Native.Nat.{ℕ, suc, _+_, _*_, _≤_}
 use mathlib.Core.Path.{_≡_, sym, ap, _∙_}
 use mathlib.Core.Bool.{Bool}
@@ -28,7 +28,7 @@ use Rattle.single.proofs.FeedLaws.{packed-block, block-of-the-feed}
 
 -- ---- the feed
 
--- block j of bytes, whatever bytes come behind them
+-- block j of bytes, whatever bytes come after them
 block-front : (text rest : List ℕ) (j : ℕ) → suc j * 16 ≤ length text → blockAt (text ++ rest) j ≡ blockAt text j
 unfolding blockAt
 block-front text rest j there =

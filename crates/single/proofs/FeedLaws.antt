@@ -1,5 +1,5 @@
--- The single block is block j of a whole decrypting CBC feed: unit j of the text is block j of the bytes, and the register before it
--- is its neighbour. Assumes nothing.
+-- The single block is block j of a whole decrypting CBC feed: unit j of the text is block j of the bytes, and the
+-- register before it is its neighbour. Assumes nothing.
 use Prim.Native.Nat.{ℕ, zero, suc, _*_, _%_}
 use mathlib.Core.Path.{_≡_, refl, sym, ap, _∙_}
 use mathlib.Core.Bool.{true}

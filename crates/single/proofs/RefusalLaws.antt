@@ -1,4 +1,5 @@
--- What a refusal leaves: the output as it was, and an empty neighbour where one that is not refused has 16 bytes. Assumes nothing.
+-- What a refusal leaves: the output as it was, and an empty neighbour where one that is not refused has 16 bytes.
+-- Assumes nothing.
 use Prim.Native.Nat.{ℕ, zero, suc, _*_, _≤_}
 use mathlib.Core.Path.{_≡_, refl, sym, ap, _∙_}
 use mathlib.Core.List.{List}

@@ -16,7 +16,7 @@ use Rattle.modes.specs.Sessions.{written}
 unfoldable pub blockAt : List ℕ → ℕ → List ℕ
 blockAt text j = take 16 (drop (j * 16) text)
 
--- Question 11: are so many ciphertext bytes a multiple of 16, with j below the number of blocks?
+-- Question 11: are this many ciphertext bytes a multiple of 16, with j below the number of blocks?
 unfoldable pub blockOk : ℕ → ℕ → Bool
 blockOk bytes j = eqb (bytes % 16) 0 && ltb j (bytes / 16)
 

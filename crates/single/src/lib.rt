@@ -18,8 +18,8 @@ fn block_ok(bytes: usize, j: usize) -> bool
     }
 }
 
-// Questions 2 and 11.
-fn neighbour_number(iv: &[u8], text: &[u8], j: usize) -> u8
+// Questions 2 and 11: the number where the neighbour is an empty part, and 0 where it is not.
+pub fn neighbour_number(iv: &[u8], text: &[u8], j: usize) -> u8
     ensures { λ r. ⌜ r ≡ ask (neighbourQuestions (now (iv .entry)) (now (text .entry)) j) ⌝ }
 {
     if iv.len() != Session::BLOCK {

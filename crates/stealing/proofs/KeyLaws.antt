@@ -1,4 +1,5 @@
--- Under an accepted key and IV the block functions are AES, and a message becomes one of its own length. Assumes nothing.
+-- Under an accepted key and IV the block functions are AES, and a message becomes one of its own length. Assumes
+-- nothing.
 use Prim.Native.Nat.{ℕ, _*_, _≤_, _<_}
 use mathlib.Core.Path.{_≡_, ap, _∙_}
 use mathlib.Core.Bool.{true}

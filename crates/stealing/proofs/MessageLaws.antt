@@ -1,4 +1,5 @@
--- A message by its session: the blocks before the last two are fed, and the last two are put behind what they became. Assumes nothing.
+-- A message by its session: the blocks before the last two are fed, and the last two are put after what these became.
+-- Assumes nothing.
 use Prim.Native.Nat.{ℕ, _+_, _-_, _*_, _/_}
 use mathlib.Core.Path.{_≡_, refl, sym, ap₂, _∙_}
 use mathlib.Core.Bool.{Bool}

@@ -1,5 +1,5 @@
--- The number: questions 1 and 2 are those of a CBC opening, whose question 3 is always answered 'yes'; 6, 13 and 8 are the message's.
--- Assumes nothing.
+-- The number: questions 1 and 2 are those of a CBC opening, whose question 3 is always answered 'yes'; 6, 13 and 8 are
+-- the message's. Assumes nothing.
 use Prim.Native.Nat.{ℕ, _+_, _-_, _*_, _/_, _%_, _≤_, _<_}
 use mathlib.Core.Path.{_≡_}
 use mathlib.Core.Bool.{Bool, true, false, cond}

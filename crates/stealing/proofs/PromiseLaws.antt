@@ -1,4 +1,5 @@
--- What the calls promise: refused they change nothing; accepted they write the message, which the other call gives back. Assumes nothing.
+-- What the calls promise: refused they change nothing; accepted they write the message, which the other call gives
+-- back. Assumes nothing.
 use Prim.Native.Nat.{ℕ, _+_, _*_, _≤_, _<_}
 use mathlib.Core.Path.{_≡_, sym, ap, _∙_}
 use mathlib.Core.Bool.{Bool}
@@ -30,7 +31,7 @@ unfolding StealRefusedUnchanged
 steal-refused-unchanged dir key iv input count out place number after stolen refused =
     rw (ne-eqb (stealNumber key iv (length input) count (length out) place) 0 (λ e. refused (stolen .answer ∙ e))) at (stolen .output)
 
--- An input with so many bits of text has the bytes for them.
+-- An input with `count` bits of text has the bytes for them.
 fed-there : (input : List ℕ) (count : ℕ) → length (fedText input count) ≡ count → count ≤ 8 * length input
 unfolding fedText
 fed-there input count e = omega (arith, length-bits input, rw length-take at e)
@@ -76,7 +77,8 @@ module _ {dir : Direction} {key iv input : List ℕ} {count : ℕ} {out : List �
   undone =
       rw (exactly .text) (stealing-undone (encrypted key) (decrypted key) dir iv (fedText input count) (under .ciphers) (under .block) message-long .undone)
 
-  -- the other call, of an input that holds what was written: it is asked for room, and for nothing else that is not there
+  -- the other call, of an input that holds what was written: it is asked for room, and for nothing else that is not
+  -- there
   other-takes : (input′ out′ : List ℕ) (place′ : ℕ) → fedText input′ count ≡ fedText (drop place after) count → place′ + bytesFor count ≤ length out′
       → Acceptable key iv input′ count out′ place′
   unfolding StealAccepts

@@ -50,7 +50,8 @@ StealAccepts =
     (dir : Direction) (key iv input : List ℕ) (count : ℕ) (out : List ℕ) (place number : ℕ) (after : List ℕ)
     → StolenBy dir key iv input count out place number after → (number ≡ 0) ↔ Acceptable key iv input count out place
 
--- What one call wrote the other takes, under the same key and IV, wherever there is room for it, and gives the message back.
+-- What one call wrote the other takes, under the same key and IV, wherever there is room for it, and gives the message
+-- back.
 unfoldable pub MessageUndone : Type 0
 MessageUndone =
     (dir : Direction) (key iv input : List ℕ) (count : ℕ) (out : List ℕ) (place number : ℕ) (after : List ℕ)

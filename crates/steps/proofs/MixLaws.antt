@@ -1,5 +1,6 @@
--- The two matrices of MixColumns undo each other: a product goes through a sum, sums of sums are turned, and one computed test
--- at the bytes with one digit says that the matrices' product gives a byte on the diagonal and 0 elsewhere. Assumes nothing.
+-- The two matrices of MixColumns undo each other: a product goes through a sum, sums of sums are turned, and one
+-- computed test at the bytes with one digit says that the matrices' product gives a byte on the diagonal and 0
+-- elsewhere. Assumes nothing.
 use mathlib.Core.Path.{_≡_, refl, sym, ap, _∙_}
 use mathlib.Core.Bool.{Bool, true, false, cond}
 use mathlib.Core.List.{List}

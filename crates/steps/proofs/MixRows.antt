@@ -1,5 +1,5 @@
--- MixColumns and its inverse by whole rows: what the code makes of joined rows is what the matrices make of each column.
--- Assumes nothing.
+-- MixColumns and its inverse by whole rows: what the code makes of joined rows is what the matrices make of each
+-- column. Assumes nothing.
 use mathlib.Core.Path.{_≡_, ap, _∙_}
 use mathlib.Core.List.{List, map}
 use Prim.Native.Nat.{ℕ, _+_, _%_, _<_}

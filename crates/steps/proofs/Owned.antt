@@ -1,5 +1,5 @@
--- What owning a state by value tells: each of its numbers is a byte. `search state-bytes` finds the rest in what a need is
--- handed. Assumes nothing.
+-- What owning a state by value gives: each of its numbers is a byte. `search state-bytes` finds the rest in what a need
+-- is handed. Assumes nothing.
 use mathlib.Core.List.{List, [], _∷_}
 use Prim.Native.Nat.{ℕ, zero, suc, _<_}
 use native.Mathlib.Nat.{zero-lt-suc}

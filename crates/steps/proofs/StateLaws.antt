@@ -1,5 +1,5 @@
--- The state as a function of row and column: what stands where, equality place by place, and the way from a block and back.
--- Assumes nothing.
+-- The state as a function of row and column: what stands where, equality place by place, and the way from a block and
+-- back. Assumes nothing.
 use mathlib.Core.Path.{_≡_, refl, ap, _∙_}
 use mathlib.Core.List.{List, [], _∷_}
 use Prim.Native.Nat.{ℕ, zero, suc, _+_, _*_, _<_}

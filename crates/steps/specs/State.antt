@@ -1,4 +1,5 @@
--- The state, FIPS 197 section 3.4: a square of four rows of four bytes; byte 4c + r of a block stands in row r, column c.
+-- The state, FIPS 197 section 3.4: a square of four rows of four bytes; byte 4c + r of a block stands in row r, column
+-- c.
 use Prim.Native.Nat.{ℕ, _+_, _*_}
 use mathlib.Core.List.{List, [], _++_}
 use lib.ListN.{getD}

@@ -25,7 +25,8 @@ shiftRows s = state (λ r c. at s r ((c + r) % 4))
 unfoldable pub invShiftRows : List (List ℕ) → List (List ℕ)
 invShiftRows s = state (λ r c. at s r ((c + (4 - r)) % 4))
 
--- The matrix whose first row is given and in which each later row is the row above turned right by one: row r, column k.
+-- The matrix whose first row is given and in which each later row is the row above turned right by one: row r, column
+-- k.
 unfoldable pub circulant : List ℕ → ℕ → ℕ → ℕ
 circulant first r k = getD first ((k + (4 - r)) % 4) 0
 

@@ -19,7 +19,7 @@ pub fn sub_bytes(table: &[u8; 256], s: [[u8; 4]; 4]) -> [[u8; 4]; 4]
     ]
 }
 
-// A row turned left by so many bytes.
+// A row turned left by this many bytes.
 fn turned(row: [u8; 4], by: usize) -> [u8; 4]
     requires { ⌜ by < 4 ⌝ }
     ensures { λ r. ⌜ r ≡ four (λ i. getD row ((by + i) % 4) 0) ⌝ }

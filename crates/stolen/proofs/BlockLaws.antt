@@ -74,7 +74,7 @@ module _ (enc dec : List ℕ → List ℕ) (iv : List Bool) where
   plain-by c zero = refl
   plain-by c (suc t) = refl
 
-  -- Block t of either text comes of the other's blocks up to t.
+  -- Block t of either text comes from the other's blocks up to t.
   pub cipher-same : {p q : ℕ → List Bool} (t : ℕ) → ((s : ℕ) → s ≤ t → p s ≡ q s) → cbcCipher enc dec p iv t ≡ cbcCipher enc dec q iv t
   unfolding cbcCipher
   cipher-same zero same = ap (λ (u : List Bool). ciph enc dec (xorBits u iv)) (same 0 (le-refl 0))

@@ -1,5 +1,5 @@
--- Stealing by plain CBC, the last two ciphertext blocks exchanged: of whole blocks (`WholeBlocksExchanged`), and of any length, filled up
--- and cut (`FilledAndCut`). Assumes nothing.
+-- Stealing by plain CBC, the last two ciphertext blocks exchanged: of whole blocks (`WholeBlocksExchanged`), and of any
+-- length, filled up and cut (`FilledAndCut`). Assumes nothing.
 use Prim.Native.Nat.{ℕ, _+_, _-_, _*_, _%_, _<_}
 use mathlib.Core.Path.{_≡_, refl, sym}
 use mathlib.Core.Bool.{Bool, false}

@@ -1,5 +1,5 @@
--- The blocks before the last two: plain CBC makes of them alone what it makes of them in the message, and then has in its register what the
--- last two begin with. Assumes nothing.
+-- The blocks before the last two: plain CBC makes of them alone what it makes of them in the message, and then has in
+-- its register what the last two begin with. Assumes nothing.
 use Prim.Native.Nat.{ℕ, zero, suc, _*_, _%_, _≤_, _<_}
 use mathlib.Core.Path.{_≡_, refl, sym, ap, _∙_}
 use mathlib.Core.Bool.{Bool, true}

@@ -1,4 +1,5 @@
--- Messages over any two block functions: what becomes of them, undoing, plain CBC, recovery; and the last two blocks as a message.
+-- Messages over any two block functions: what becomes of them, undoing, plain CBC, recovery; and the last two blocks as
+-- a message.
 pub mod SplitLaws
 pub mod BlockLaws
 pub mod TailLaws

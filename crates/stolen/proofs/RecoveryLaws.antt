@@ -1,5 +1,5 @@
--- Recovery after loss: a plaintext block that is none of the last two comes of its own ciphertext block and the one before it:
--- `StealingRecovers`. Assumes nothing.
+-- Recovery after loss: a plaintext block that is none of the last two comes from its own ciphertext block and the one
+-- before it: `StealingRecovers`. Assumes nothing.
 use Prim.Native.Nat.{ℕ, zero, suc, _+_, _<_}
 use mathlib.Core.Path.{_≡_, sym, ap, _∙_}
 use mathlib.Core.Bool.{Bool}

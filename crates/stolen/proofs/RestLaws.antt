@@ -1,4 +1,5 @@
--- Behind the blocks that are fed the last two are a message of their own, under what CBC then has in its register. Assumes nothing.
+-- After the blocks that are fed, the last two are a message of their own, under what CBC then has in its register.
+-- Assumes nothing.
 use Prim.Native.Nat.{ℕ, _-_, _*_, _≤_, _<_}
 use mathlib.Core.Path.{_≡_, sym, ap, _∙_}
 use mathlib.Core.Bool.{Bool}

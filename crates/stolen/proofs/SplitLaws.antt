@@ -1,4 +1,5 @@
--- What a message becomes, in three parts: the blocks before the last two, the block before the end, and the end. Assumes nothing.
+-- What a message becomes, in three parts: the blocks before the last two, the block before the end, and the end.
+-- Assumes nothing.
 use Prim.Native.Nat.{ℕ, zero, suc, _-_, _<_}
 use mathlib.Core.Path.{_≡_, refl, ap}
 use mathlib.Core.Bool.{Bool}

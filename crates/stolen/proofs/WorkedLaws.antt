@@ -19,7 +19,7 @@ use Rattle.stolen.proofs.TailLaws.{filled-whole, msb-tail, uncovered-ta
 use Rattle.stolen.proofs.PartLaws.{message, Parts, parts-long, parts-full, unit-early, unit-before, unit-end}
 
 module _ (enc dec : List ℕ → List ℕ) where
-  -- X from a plaintext: what CBC makes of the block `a` behind k blocks.
+  -- X from a plaintext: what CBC makes of the block `a` after k blocks.
   unfoldable pub chained : List ℕ → ℕ → (ℕ → List Bool) → List Bool → List Bool
   chained iv k f a = ciph enc dec (xorBits a (before (cbcCipher enc dec f (bits iv)) (bits iv) k))
 

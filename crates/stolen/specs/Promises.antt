@@ -36,8 +36,8 @@ WholeBlocksExchanged =
     (enc dec : List ℕ → List ℕ) (iv : List ℕ) (x : List Bool) → BlockCipher enc dec → Block iv → 128 < length x → length x % 128 ≡ 0
     → PlainExchanged enc dec iv x
 
--- Of any length: its encryption is plain CBC of the message filled up with 0 bits to whole blocks, the last two blocks exchanged, cut to
--- the message's length.
+-- Of any length: its encryption is plain CBC of the message filled up with 0 bits to whole blocks, the last two blocks
+-- exchanged, cut to the message's length.
 unfoldable pub filledUp : List Bool → List Bool
 filledUp x = x ++ replicate (unitsIn 128 (length x) * 128 - length x) false
 
@@ -50,9 +50,9 @@ FilledAndCut =
 abbrev pub NotLastTwo : List Bool → ℕ → Type 0
 NotLastTwo x t = t + 2 < unitsIn 128 (length x)
 
--- Recovery: x and y are two ciphertexts under the IVs v and w, p and q their plaintexts. Of a common run, wherever it begins in
--- each, every plaintext block is equal but the first, and the last two of either message. Of one from the start under one IV the first is
--- equal too.
+-- Recovery: x and y are two ciphertexts under the IVs v and w, p and q their plaintexts. Of a common run, wherever it
+-- begins in each, every plaintext block is equal but the first, and the last two of either message. Of one from the
+-- start under one IV the first is equal too.
 pub record MessageRecovered (v w : List ℕ) (x p y q : List Bool) : Type 0 where
   pub after-loss : (i j k : ℕ) → CommonRun 128 x y i j k → (t : ℕ) → 0 < t → t < k → NotLastTwo x (i + t) → NotLastTwo y (j + t) → unitAt 128 p (i + t) ≡ unitAt 128 q (j + t)
   pub before-loss : v ≡ w → (k : ℕ) → CommonRun 128 x y 0 0 k → (t : ℕ) → t < k → NotLastTwo x t → NotLastTwo y t → unitAt 128 p t ≡ unitAt 128 q t

@@ -1,5 +1,6 @@
--- Ciphertext stealing for CBC (request 03, after RFC 2040), by index and over any two block functions. Blocks count from 0.
--- A message has more than 128 bits. Its last block, the tail of a plaintext and the end of a ciphertext, has 1 to 128 of them.
+-- Ciphertext stealing for CBC (request 03, after RFC 2040), by index and over any two block functions. Blocks count
+-- from 0. A message has more than 128 bits. Its last block, the tail of a plaintext and the end of a ciphertext, has 1
+-- to 128 of them.
 use Prim.Native.Nat.{ℕ, zero, suc, _-_, _/_}
 use mathlib.Core.Bool.{Bool, false, cond}
 use mathlib.Core.List.{List, _++_}
@@ -11,7 +12,7 @@ use Rattle.rules.specs.declared.Direction.the-variants.{Encrypt, Decrypt}
 use Rattle.rules.specs.Rules.{msb, unitAt, unitsIn, joined}
 use Rattle.rules.specs.Standard.{ciph, ciphInv, cbcCipher, cbcPlain}
 
--- How many full blocks stand before the tail, of a message of so many bits. It is the tail's number too.
+-- How many full blocks stand before the tail, of a message of this many bits. It is the tail's number too.
 unfoldable pub fullBlocks : ℕ → ℕ
 fullBlocks count = (count - 1) / 128
 
@@ -45,7 +46,8 @@ module _ (enc dec : List ℕ → List ℕ) (iv : List ℕ) (x : List Bool) where
   unfoldable pub lastFull : List Bool
   lastFull = cbcCipher enc dec block (bits iv) (last - 1)
 
-  -- The block before the end is the encryption of (tail filled with 00) XOR X. The end is the first bits of X, as many as the tail has.
+  -- The block before the end is the encryption of (tail filled with 00) XOR X. The end is the first bits of X, as many
+  -- as the tail has.
   unfoldable pub cipherAt : ℕ → List Bool
   cipherAt t =
       placed last t (cbcCipher enc dec block (bits iv) t) (ciph enc dec (xorBits (filled tail) lastFull)) (msb (length tail) lastFull)

@@ -1,4 +1,5 @@
--- One unit, left-aligned in a block: what the block operations of each mode's code give is what the unit rules say. Assumes nothing.
+-- One unit, left-aligned in a block: what the block operations of each mode's code give is what the unit rules say.
+-- Assumes nothing.
 use mathlib.Core.Path.{_≡_, refl, sym, ap, _∙_}
 use mathlib.Core.Bool.{Bool, true}
 use mathlib.Core.Logic.{_⊎_, inl, inr}
@@ -37,7 +38,7 @@ whole {b} h = take-all 128 (bits b) (omega (arith, bits-block h))
 packed : {b : List ℕ} → Block b → pack (take 128 (bits b)) ≡ b
 packed h = ap pack (whole h) ∙ block-pack-bits h
 
--- ---- a unit of so many bits
+-- ---- a unit of `size` bits
 
 unit-size : {b : List ℕ} (size : ℕ) → Block b → size ≤ 128 → length (take size (bits b)) ≡ size
 unit-size {b} size h le = length-take size (bits b) ∙ min-eq-left (omega (arith, bits-block h))

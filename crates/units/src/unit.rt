@@ -1,5 +1,5 @@
-// One unit: what each mode makes of it, the register after it, and the runs of the block function that it took. A unit stands
-// left-aligned in 16 bytes. The block function is Enc or Dec, by what was prepared for it.
+// One unit: what each mode makes of it, the register after it, and the runs of the block function that it took. A unit
+// stands left-aligned in 16 bytes. The block function is Enc or Dec, by what was prepared for it.
 use prepared::Prepared;
 use rules::Direction;
 use rules::Mode;
@@ -174,7 +174,7 @@ fn by_mode(
     }
 }
 
-// Works the unit of `size` bits that begins `offset` bits into a part of the input by what was prepared.
+// Processes the unit of `size` bits that begins `offset` bits into a part of the input by what was prepared.
 pub fn turn(
     mode: Mode,
     direction: Direction,

@@ -1,6 +1,6 @@
--- What the rounds make of a state, by any words p that stand where prepared ones do: the table from word 0 on, 256 words to a row;
--- from 1024 on the bytes of the last round, a word to each; from 1280 on the words of the round keys; at 1340 the rounds; at 1341 the
--- direction.
+-- What the rounds make of a state, by any words p that stand where prepared ones do: the table from word 0 on, 256
+-- words to a row; from 1024 on the bytes of the last round, a word to each; from 1280 on the words of the round keys;
+-- at 1340 the rounds; at 1341 the direction.
 use Prim.Native.Nat.{ℕ, zero, suc, _+_, _-_, _*_, _%_}
 use mathlib.Core.Bool.{Bool, cond}
 use mathlib.Core.List.{List, [], _∷_}
@@ -54,7 +54,7 @@ roundsBy p (suc k) s = addWords p (suc k) (tableRound p (roundsBy p k s))
 unfoldable pub mirrored : List (List ℕ) → List (List ℕ)
 mirrored s = state (λ r c. at s r ((4 - c) % 4))
 
--- To decrypt, they stand so before the first round, and are turned back after the last.
+-- To decrypt, they are put in that order before the first round, and turned back after the last.
 unfoldable pub arranged : Bool → List (List ℕ) → List (List ℕ)
 arranged decrypting s = cond decrypting (mirrored s) s
 

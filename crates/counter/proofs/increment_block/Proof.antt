@@ -1,5 +1,5 @@
--- `counter::increment_block` meets its contract: the last byte takes the 1 (`stop`, with no byte behind it), or `increment_bytes` does all.
--- Assumes nothing.
+-- `counter::increment_block` meets its contract: the last byte takes the 1 (`stop`, with no byte after it), or
+-- `increment_bytes` does all. Assumes nothing.
 use mathlib.Core.Path.{refl}
 use native.Mathlib.Omega.{arith}
 use borrow.Author.Needs.{needs}

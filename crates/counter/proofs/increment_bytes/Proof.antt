@@ -1,5 +1,5 @@
--- `counter::increment_bytes` meets its contract. The loop's invariant: the bytes from i on are done, and the number before them still
--- takes 1 in its lowest m - 8 (16 - i) bits. Assumes nothing.
+-- `counter::increment_bytes` meets its contract. The loop's invariant: the bytes from i on are done, and the number
+-- before them still takes 1 in its lowest m - 8 (16 - i) bits. Assumes nothing.
 use mathlib.Core.Path.{_≡_}
 use mathlib.Core.Logic.{⊎-elim}
 use Prim.Native.Nat.{suc, _≤_, _<_, _-_, _+_, _*_, _/_, _%_}
@@ -86,7 +86,7 @@ plus-one-requires c κs = omega arith
 array-write-out-3 : tie.Need-array-write-out-3 Inv-loop μ-loop
 array-write-out-3 c = omega arith
 
--- behind the loop the bits that are left are those of no whole byte
+-- after the loop the bits that are left are those of no whole byte
 returns-2 : tie.Need-returns-2 Inv-loop μ-loop
 returns-2 c =
     let l = c .before .before .before in

@@ -1,5 +1,5 @@
--- `ending::finish` meets its contract: the two windows are the two blocks, and what is made of their bytes is what becomes of the
--- message of their bits (`EndingLaws`). Assumes nothing.
+-- `ending::finish` meets its contract: the two windows are the two blocks, and what is made of their bytes is what
+-- becomes of the message of their bits (`EndingLaws`). Assumes nothing.
 use Prim.Native.Nat.{_*_, _/_}
 use mathlib.Core.Path.{_≡_}
 use native.Mathlib.Omega.{arith}

@@ -1,5 +1,5 @@
--- `lines::feed_all` meets its contract: the message is the digits' bytes, and the feed's number decides what is printed (`FeedLines`).
--- Assumes nothing.
+-- `lines::feed_all` meets its contract: the message is the digits' bytes, and the feed's number decides what is printed
+-- (`FeedLines`). Assumes nothing.
 use mathlib.Core.Path.{sym, ap, _∙_}
 use Prim.Native.Nat.{ℕ, _/_}
 use native.Mathlib.Omega.{arith}
@@ -17,7 +17,7 @@ use Rattle.lines.proofs.feed_all.Tie as tie
 arrays-are : (s : tie.Start) → Arrays (s .args .session)
 arrays-are s = record { register = search arrays; keys = search arrays; keys-size = length-unmapped ℕ (s .args .session .keys) 240 (search needs) }
 
--- what the feed tells
+-- what is known of the feed
 told : (c : tie.After-feed) → let a = c .before .before .before .before .before .before .before .args in
     WholeFeed (a .session) (hexBytes (a .digits .now)) (length (a .digits .now) / 2) (c .feed .result) (c .feed .last .1 .1 .1 .0)
 told c =

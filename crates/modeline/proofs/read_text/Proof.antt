@@ -1,4 +1,5 @@
--- `modeline::read_text` meets its contract: each turn reads at least a byte, into the room that is left. Assumes nothing.
+-- `modeline::read_text` meets its contract: each turn reads at least a byte, into the room that is left. Assumes
+-- nothing.
 use mathlib.Core.Path.{_≡_, refl, sym}
 use Prim.Native.Nat.{_≤_, _-_}
 use native.Mathlib.Omega.{arith}

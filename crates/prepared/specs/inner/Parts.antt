@@ -36,8 +36,8 @@ entryRule decrypting last i = columnTimes decrypting (i / 256) (getD last (i % 2
 unfoldable pub unmixed : List ℕ → List ℕ
 unmixed x = four (λ r. dot (circulant (matrix true) r) (λ k. getD x k 0))
 
--- Word i of the round keys in the order of decryption: from the last round key to the first, each with its columns in the order
--- 0, 3, 2, 1; and the same with those in the middle after InvMixColumns (FIPS 197 section 5.3.5).
+-- Word i of the round keys in the order of decryption: from the last round key to the first, each with its columns in
+-- the order 0, 3, 2, 1; and the same with those in the middle after InvMixColumns (FIPS 197 section 5.3.5).
 unfoldable pub reversedRule : ℕ → List ℕ → ℕ → List ℕ
 reversedRule rounds keys i = wordAt keys (4 * (rounds - i / 4) + (4 - i % 4) % 4)
 
@@ -50,8 +50,8 @@ backwardRule rounds keys i =
 unfoldable pub zeroFrom : ℕ → (ℕ → List ℕ) → ℕ → List ℕ
 zeroFrom count rule i = cond (ltb i count) (rule i) (replicate 4 0)
 
--- The words as the rounds take them. To encrypt these are the round keys' own; to decrypt there are as many as the rounds take, and
--- none under rounds other than 10, 12 and 14, with zero after them.
+-- The words as the rounds take them. To encrypt these are the round keys' own; to decrypt there are as many as the
+-- rounds take, and none under rounds other than 10, 12 and 14, with zero after them.
 unfoldable pub wordRule : Bool → ℕ → List ℕ → ℕ → List ℕ
 wordRule decrypting rounds keys =
     cond decrypting (zeroFrom (cond (roundsOk rounds) (4 * rounds + 4) 0) (backwardRule rounds keys)) (wordAt keys)
@@ -73,12 +73,12 @@ pub record Filled (start end : ℕ) (rule : ℕ → List ℕ) (before after : Li
 
 -- ---- all of it
 
--- Both tables: column k of the matrix times the substitute of b at 256 * k + b, and behind it the substitutes themselves.
+-- Both tables: column k of the matrix times the substitute of b at 256 * k + b, then the substitutes themselves.
 unfoldable pub tableRule : Bool → ℕ → List ℕ
 tableRule decrypting i =
     cond (ltb i 1024) (columnTimes decrypting (i / 256) (substituted decrypting (i % 256))) (byteWord (substituted decrypting (i - 1024)))
 
--- The rounds, or 0 where there is no cipher of so many; and 1 for decryption, 0 for encryption.
+-- The rounds, or 0 where there is no cipher of this many; and 1 for decryption, 0 for encryption.
 unfoldable pub endRule : Bool → ℕ → ℕ → List ℕ
 endRule decrypting rounds i = cond (ltb i 1341) (wordBytes (cond (roundsOk rounds) rounds 0)) (wordBytes (cond decrypting 1 0))
 

@@ -1,5 +1,5 @@
--- One ciphertext unit changed, mode by mode: beside what holds in any, the next block in CBC and the segment itself in CFB differ in
--- exactly the changed bits. Assumes nothing.
+-- One ciphertext unit changed, mode by mode: beside what holds in any, the next block in CBC and the segment itself in
+-- CFB differ in exactly the changed bits. Assumes nothing.
 use Prim.Native.Nat.{ℕ, suc, _*_, _≤_, _<_}
 use mathlib.Core.Path.{_≡_, refl, sym, ap, _∙_}
 use mathlib.Core.Logic.{_↔_}
@@ -43,7 +43,7 @@ module _ {enc dec : List ℕ → List ℕ} (ciphers : BlockCipher enc dec) (m : 
 -- ---- CBC
 
 module _ {enc dec : List ℕ → List ℕ} (ciphers : BlockCipher enc dec) (m : ℕ) (v : List ℕ) (block : Block (start Cbc v)) where
-  -- A later unit is the unit before of the ciphertext, masked with what dec makes of its own.
+  -- A later unit is the ciphertext's unit before it, masked with what dec makes of its own.
   plain-chained : {x : List Bool} → Taken Cbc 128 x → (t : ℕ) → suc t < unitsIn 128 (length x)
       → unitAt 128 (worked enc dec Cbc Decrypt 128 m (start Cbc v) x) (suc t) ≡ xorBits (unitAt 128 x t) (ciphInv enc dec (unitAt 128 x (suc t)))
   unfolding UnitLength

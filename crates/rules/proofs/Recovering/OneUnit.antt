@@ -1,5 +1,5 @@
--- One ciphertext unit changed, in any mode that recovers: the registers up to it are the same, and behind it is a common run, so no
--- plaintext unit outside the mode's reach differs. The unit itself does. Assumes nothing.
+-- One ciphertext unit changed, in any mode that recovers: the registers up to it are the same, and after it comes
+-- a common run, so no plaintext unit outside the mode's reach differs. The unit itself does. Assumes nothing.
 use Prim.Native.Nat.{ℕ, suc, _+_, _-_, _*_, _≤_, _<_}
 use mathlib.Core.Path.{_≡_, sym, ap, ap₂, _∙_}
 use mathlib.Core.Bool.{Bool, true}
@@ -46,7 +46,7 @@ module _ {enc dec : List ℕ → List ℕ} (ciphers : BlockCipher enc dec) (m : 
     pub register-before : (t : ℕ) → t ≤ j → registerAt enc dec mode Decrypt n m (start mode v) x t ≡ registerAt enc dec mode Decrypt n m (start mode v) y t
     register-before t h = register-same enc dec mode Decrypt n m (start mode v) x y t (λ s i. change .others s (omega arith))
 
-    -- behind unit j the texts are a common run
+    -- after unit j the texts are a common run
     register-behind : unitLengthOk mode n ≡ true → {c : ℕ} → recoveryUnits mode n ≡ some c → (t : ℕ) → suc j + c ≤ t → t * n ≤ length x
         → registerAt enc dec mode Decrypt n m (start mode v) x t ≡ registerAt enc dec mode Decrypt n m (start mode v) y t
     register-behind ok rec t from inside =

@@ -1,5 +1,5 @@
--- A common run: after as many units as its mode needs, both decryptions have the same register and go on alike. In CFB this is the
--- register law, with no case on whether n divides 128. Assumes nothing.
+-- A common run: after as many units as its mode needs, both decryptions have the same register and go on alike. In CFB
+-- this is the register law, with no case on whether n divides 128. Assumes nothing.
 use Prim.Native.Nat.{ℕ, zero, suc, _+_, _-_, _*_, _≤_, _<_}
 use mathlib.Core.Path.{_≡_, refl, sym, ap, ap₂, _∙_}
 use mathlib.Core.Bool.{Bool, true}

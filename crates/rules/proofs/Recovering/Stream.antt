@@ -1,5 +1,5 @@
--- OFB and CTR: the register moves by itself, so the text is masked with a stream that does not depend on it, and a changed bit of
--- the ciphertext changes that bit of the plaintext and no other. Assumes nothing.
+-- OFB and CTR: the register moves by itself, so the text is masked with a stream that does not depend on it, and a
+-- changed bit of the ciphertext changes that bit of the plaintext and no other. Assumes nothing.
 use Prim.Native.Nat.{ℕ, zero, suc, _*_, _≤_, _<_}
 use mathlib.Core.Path.{_≡_, refl, sym, ap, _∙_}
 use mathlib.Core.Logic.{_↔_}

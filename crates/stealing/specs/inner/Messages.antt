@@ -10,7 +10,7 @@ use Rattle.rules.specs.declared.Mode.the-variants.{Cbc}
 use Rattle.questions.specs.Questions.{maxBits}
 use Rattle.modes.specs.declared.session.Session.{Session}
 
--- Of a session at a message's begin, of the message and of the room for it.
+-- Of a session at a message's start, of the message and of the room for it.
 pub record Begins (s : Session) (input : List ℕ) (count : ℕ) (out : List ℕ) : Type 0 where
   pub mode : s .mode ≡ Cbc
   pub unit : s .n ≡ 128

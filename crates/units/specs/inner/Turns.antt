@@ -1,4 +1,5 @@
--- What the code of one unit gives, by the unit rules: a unit stands left-aligned in 16 bytes, and so does what it becomes.
+-- What the code of one unit gives, by the unit rules: a unit stands left-aligned in 16 bytes, and so does what it
+-- becomes.
 use Prim.Native.Nat.{ℕ}
 use mathlib.Core.Path.{_≡_}
 use mathlib.Core.Bool.{Bool, true, false, cond}
@@ -36,8 +37,8 @@ runsDec Ctr dir = false
 pub record Runs (f enc dec : List ℕ → List ℕ) (mode : Mode) (dir : Direction) : Type 0 where
   pub same : (b : List ℕ) → Block b → f b ≡ cond (runsDec mode dir) (dec b) (enc b)
 
--- The whole block that a unit is worked to. Its first bits, as many as the unit has, are the mode's rule; in CFB, OFB and CTR those past a
--- short unit are XOR of what stands there and of the block that was run.
+-- The whole block that a unit becomes. Its first bits, as many as the unit has, are the mode's rule; in CFB, OFB and
+-- CTR those past a short unit are XOR of what stands there and of the block that was run.
 unfoldable pub outBlock : (List ℕ → List ℕ) → Mode → Direction → List ℕ → List ℕ → List ℕ
 outBlock f Ecb dir register unit = f unit
 outBlock f Cbc Encrypt register unit = f (xorBytes unit register)

@@ -1,4 +1,5 @@
--- `bits::block::xor_block` meets its contract. The loop's invariant: the first i bytes are those of the XOR. Assumes nothing.
+-- `bits::block::xor_block` meets its contract. The loop's invariant: the first i bytes are those of the XOR. Assumes
+-- nothing.
 use mathlib.Core.Path.{_≡_, refl, sym, _∙_}
 use Prim.Native.Nat.{_≤_, _-_}
 use native.Mathlib.Omega.{arith}

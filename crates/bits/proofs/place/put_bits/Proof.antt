@@ -1,4 +1,5 @@
--- `bits::place::put_bits` meets its contract: whole bytes are written, then the one that the text fills in part. Assumes nothing.
+-- `bits::place::put_bits` meets its contract: whole bytes are written, then the one that the text fills in part.
+-- Assumes nothing.
 use mathlib.Core.Path.{_≡_, sym, ap, _∙_}
 use Prim.Native.Nat.{ℕ, _+_, _/_, _%_, _<_}
 use native.Mathlib.Omega.{arith}

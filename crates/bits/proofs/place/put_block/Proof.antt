@@ -1,4 +1,5 @@
--- `bits::place::put_block` meets its contract. The loop's invariant: i bytes of the block stand in their place. Assumes nothing.
+-- `bits::place::put_block` meets its contract. The loop's invariant: i bytes of the block stand in their place. Assumes
+-- nothing.
 use mathlib.Core.Path.{_≡_, refl}
 use Prim.Native.Nat.{_≤_, _-_}
 use native.Mathlib.Omega.{arith}

@@ -1,5 +1,5 @@
--- `bits::place::put_bytes` meets its contract. The loop's invariant: i bytes are written, and `high` holds the bits of the next one that
--- come from the byte before it. Assumes nothing.
+-- `bits::place::put_bytes` meets its contract. The loop's invariant: i bytes are written, and `high` holds the bits of
+-- the next one that come from the byte before it. Assumes nothing.
 use mathlib.Core.Path.{_≡_, refl, sym, ap, _∙_}
 use mathlib.Core.List.{[], _∷_, _++_}
 use Prim.Native.Nat.{ℕ, _≤_, _<_, _-_, _/_, _^_}

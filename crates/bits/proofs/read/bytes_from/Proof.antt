@@ -1,5 +1,5 @@
--- `bits::read::bytes_from` meets its contract. The loop's invariant: i bytes are there, and `high` is the byte that the next one starts in.
--- Assumes nothing.
+-- `bits::read::bytes_from` meets its contract. The loop's invariant: i bytes are there, and `high` is the byte that the
+-- next one starts in. Assumes nothing.
 use mathlib.Core.Path.{_≡_, sym, ap₂, _∙_}
 use Prim.Native.Nat.{ℕ, _≤_, _-_, _+_, _*_, _/_, _%_, _^_}
 use native.Mathlib.Omega.{arith}

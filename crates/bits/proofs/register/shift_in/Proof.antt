@@ -1,4 +1,5 @@
--- `bits::register::shift_in` meets its contract. The loop's invariant: i bytes of the shifted register are there. Assumes nothing.
+-- `bits::register::shift_in` meets its contract. The loop's invariant: i bytes of the shifted register are there.
+-- Assumes nothing.
 use mathlib.Core.Path.{_≡_, sym, ap, _∙_}
 use mathlib.Core.List.{List}
 use Prim.Native.Nat.{ℕ, _≤_, _-_, _*_}

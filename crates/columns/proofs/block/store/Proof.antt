@@ -1,4 +1,4 @@
--- The columns, one behind the other (`ColumnLaws`). Assumes nothing.
+-- The columns, one after the other (`ColumnLaws`). Assumes nothing.
 use Rattle.columns.proofs.ColumnLaws.{stored}
 use borrow.Author.Needs.{needs}
 use Rattle.columns.proofs.block.store.Statement.{statement}

@@ -1,5 +1,5 @@
--- `digits::hex::all_digits` meets its contract. The loop's invariant: all bytes are digits exactly where those from i on
--- are. Assumes nothing.
+-- `digits::hex::all_digits` meets its contract. The loop's invariant: all bytes are digits exactly where those from i
+-- on are. Assumes nothing.
 use mathlib.Core.Path.{_≡_, refl, sym, _∙_}
 use Prim.Native.Nat.{_≤_, _-_}
 use native.Mathlib.Omega.{arith}

@@ -1,5 +1,5 @@
--- `digits::hex::decode` meets its contract. The loop's invariant: i bytes are written, and the rest of the output is as it
--- was. Assumes nothing.
+-- `digits::hex::decode` meets its contract. The loop's invariant: i bytes are written, and the rest of the output is as
+-- it was. Assumes nothing.
 use mathlib.Core.Path.{sym, _≡_, refl, _∙_}
 use Prim.Native.Nat.{_/_, _≤_, _-_}
 use native.Mathlib.Omega.{arith}

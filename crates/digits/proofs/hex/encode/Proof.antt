@@ -1,5 +1,5 @@
--- `digits::hex::encode` meets its contract. The loop's invariant: the digits of i bytes are written, and no other byte is
--- changed. Assumes nothing.
+-- `digits::hex::encode` meets its contract. The loop's invariant: the digits of i bytes are written, and no other byte
+-- is changed. Assumes nothing.
 use mathlib.Core.Path.{_≡_, refl, sym, _∙_}
 use Prim.Native.Nat.{_+_, _*_, _≤_, _-_}
 use native.Mathlib.Omega.{arith}

@@ -1,4 +1,4 @@
--- `digits::hex::pair` meets its contract: a digit counts less than 16, so two of them fit a byte. Assumes nothing.
+-- `digits::hex::pair` meets its contract: a digit's value is less than 16, so two of them fit a byte. Assumes nothing.
 use Prim.Native.Nat.{_+_}
 use native.Mathlib.Omega.{arith}
 use borrow.Author.Needs.{needs}

@@ -8,7 +8,7 @@ use Rattle.digits.proofs.RangeLaws.{between-low}
 use Rattle.digits.proofs.hex.value.Statement.{statement}
 use Rattle.digits.proofs.hex.value.Tie as tie
 
--- What the tests told: the byte's range.
+-- What the tests showed: the byte's range.
 decimal : (c : tie.Then1) → between 48 57 (c .before .before .args .b) ≡ true
 decimal c = sym (c .before .between .ensures) ∙ c .if1 .taken
 

@@ -1,5 +1,5 @@
--- `digits::scan::up_to` meets its contract. The loop's invariant: the i bytes passed stand before the first `stop`. Assumes
--- nothing.
+-- `digits::scan::up_to` meets its contract. The loop's invariant: the i bytes passed stand before the first `stop`.
+-- Assumes nothing.
 use mathlib.Core.Path.{_≡_, sym}
 use Prim.Native.Nat.{_+_, _-_, _≤_}
 use native.Mathlib.Nat.{zero-add}

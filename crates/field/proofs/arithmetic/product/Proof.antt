@@ -1,4 +1,5 @@
--- The invariant: what is added already, and what is left to add, are the product. The measure is the digits left. Assumes nothing.
+-- The invariant: what is added already, and what is left to add, are the product. The measure is the digits left.
+-- Assumes nothing.
 use Prim.Native.Nat.{_<_, _*_, _%_, _/_, _-_}
 use mathlib.Core.Path.{_≡_, _∙_, sym, ap}
 use native.Mathlib.Omega.{arith}

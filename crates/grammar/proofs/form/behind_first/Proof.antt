@@ -1,5 +1,5 @@
--- `grammar::form::behind_first` meets its contract: the lines that were read are the definition's, at their places, and each
--- `return` is where one of them fails. Assumes nothing.
+-- `grammar::form::behind_first` meets its contract: the lines that were read are the definition's, at their places, and
+-- each `return` is where one of them fails. Assumes nothing.
 use mathlib.Core.Path.{refl}
 use native.Mathlib.Omega.{arith}
 use borrow.Author.Needs.{needs}

@@ -1,4 +1,4 @@
--- `grammar::form::parse` meets its contract: the first line, and then what stands behind it. Assumes nothing.
+-- `grammar::form::parse` meets its contract: the first line, and then what follows it. Assumes nothing.
 use mathlib.Core.Path.{sym, ap, _∙_}
 use native.Mathlib.Nat.{le-of-lt}
 use borrow.Author.Needs.{needs}

@@ -1,5 +1,5 @@
--- `grammar::reading::first_good` meets its contract: the parser of the first line answers its words, or nothing. Assumes
--- nothing.
+-- `grammar::reading::first_good` meets its contract: the parser of the first line answers its words, or nothing.
+-- Assumes nothing.
 use mathlib.Core.Path.{sym, ap, _∙_}
 use borrow.Author.Needs.{needs}
 use Rattle.header.specs.Answers.{firstIn}

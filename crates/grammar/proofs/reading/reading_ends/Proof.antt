@@ -1,5 +1,5 @@
--- `grammar::reading::reading_ends` meets its contract. The loop's invariant: `line` lines are complete and of their form, and
--- reading has ended exactly where it has ended in the lines that are due from `start` on. Assumes nothing.
+-- `grammar::reading::reading_ends` meets its contract. The loop's invariant: `line` lines are complete and of their
+-- form, and reading has ended exactly where it has ended in the lines that are due from `start` on. Assumes nothing.
 use mathlib.Core.Path.{_≡_, refl, sym, _∙_}
 use Prim.Native.Nat.{_+_, _-_, _≤_, _<_}
 use native.Mathlib.Nat.{le-of-lt}

@@ -1,5 +1,5 @@
--- `header::line::behind_mode` meets its contract: each `return` is a step of the definition that gives nothing, or all of
--- them. Assumes nothing.
+-- `header::line::behind_mode` meets its contract: each `return` is a step of the definition that gives nothing, or all
+-- of them. Assumes nothing.
 use mathlib.Core.Path.{sym, ap, _∙_}
 use native.Mathlib.Nat.{le-of-lt}
 use borrow.Author.Needs.{needs}

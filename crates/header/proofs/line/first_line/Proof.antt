@@ -1,5 +1,5 @@
 -- `header::line::first_line` meets its contract: each `return` is a step of the definition that gives nothing, or what
--- stands behind the mode. Assumes nothing.
+-- stands after the mode. Assumes nothing.
 use mathlib.Core.Path.{sym, ap, _∙_}
 use native.Mathlib.Nat.{le-of-lt}
 use borrow.Author.Needs.{needs}

@@ -1,5 +1,5 @@
--- `header::words::mode_word` meets its contract: the names that were asked before a `return` are those that the definition
--- asks before it. Assumes nothing.
+-- `header::words::mode_word` meets its contract: the names that were asked before a `return` are those that the
+-- definition asks before it. Assumes nothing.
 use mathlib.Core.Path.{sym, _∙_}
 use borrow.Author.Needs.{needs}
 use Rattle.header.specs.Header.{modeOf}

@@ -1,4 +1,4 @@
--- `header::words::number` meets its contract. The loop's invariant: the digits passed count n, and those from i on count
+-- `header::words::number` meets its contract. The loop's invariant: the digits passed give n, and those from i on count
 -- on from there. Assumes nothing.
 use mathlib.Core.Bool.{true}
 use mathlib.Core.Path.{_≡_, refl, sym, _∙_}

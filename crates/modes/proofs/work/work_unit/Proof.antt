@@ -1,5 +1,5 @@
--- The unit stands in the part of the input that is handed on, the turn works it, and its bits are put where they belong.
--- Assumes nothing.
+-- The unit stands in the part of the input that is handed on, the turn processes it, and its bits are put where they
+-- belong. Assumes nothing.
 use Prim.Native.Nat.{_*_, _/_, _%_}
 use mathlib.Core.Path.{ap, _∙_}
 use native.Mathlib.Omega.{arith}

@@ -1,4 +1,5 @@
--- `padding::append::copy_bytes` meets its contract. The loop's invariant: i bytes of the input stand at the front. Assumes nothing.
+-- `padding::append::copy_bytes` meets its contract. The loop's invariant: i bytes of the input stand at the front.
+-- Assumes nothing.
 use mathlib.Core.Path.{_≡_, refl}
 use Prim.Native.Nat.{_≤_, _-_}
 use native.Mathlib.Omega.{arith}

@@ -1,4 +1,5 @@
--- `padding::append::put_padded` meets its contract: the text's bytes are copied, and the 1 bit and the 0 bits are put behind it. Assumes nothing.
+-- `padding::append::put_padded` meets its contract: the text's bytes are copied, and the 1 bit and the 0 bits are put
+-- after it. Assumes nothing.
 use mathlib.Core.Path.{_∙_}
 use native.Mathlib.Omega.{arith}
 use Rattle.bits.specs.Texts.{bytesFor}

@@ -1,4 +1,4 @@
--- The invariant: the words so far stand behind the tables, which are as they were (`FillLaws`). Assumes nothing.
+-- The invariant: the words so far stand after the tables, which are as they were (`FillLaws`). Assumes nothing.
 use mathlib.Core.Path.{_≡_, refl, sym, _∙_}
 use Prim.Native.Nat.{_-_, _≤_}
 use native.Mathlib.Omega.{arith}

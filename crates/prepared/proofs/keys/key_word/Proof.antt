@@ -1,4 +1,4 @@
--- The key's bytes stand one behind the other (`KeyLaws`). Assumes nothing.
+-- The key's bytes stand one after the other (`KeyLaws`). Assumes nothing.
 use Rattle.prepared.proofs.KeyLaws.{key-placed}
 use borrow.Author.Needs.{needs}
 use Rattle.prepared.proofs.keys.key_word.Statement.{statement}

@@ -1,4 +1,5 @@
--- The invariant: the words so far are in the order of decryption, and the others are zero (`FillLaws`). Assumes nothing.
+-- The invariant: the words so far are in the order of decryption, and the others are zero (`FillLaws`). Assumes
+-- nothing.
 use mathlib.Core.Path.{_≡_, refl}
 use Prim.Native.Nat.{_+_, _-_, _*_, _≤_}
 use native.Mathlib.Omega.{arith}

@@ -1,4 +1,5 @@
--- The invariant: the words of the middle are unmixed as far as the loop is, and the others are as they were (`FillLaws`). Assumes nothing.
+-- The invariant: the words of the middle are unmixed as far as the loop is, and the others are as they were
+-- (`FillLaws`). Assumes nothing.
 use mathlib.Core.Path.{_≡_}
 use Prim.Native.Nat.{_-_, _*_, _≤_}
 use native.Mathlib.Omega.{arith}

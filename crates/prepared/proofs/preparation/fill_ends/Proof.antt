@@ -1,4 +1,4 @@
--- Two stores, one behind the other (`PartLaws`). Assumes nothing.
+-- Two stores, one after the other (`PartLaws`). Assumes nothing.
 use native.Mathlib.Omega.{arith}
 use Rattle.prepared.proofs.PartLaws.{ends-filled}
 use borrow.Author.Needs.{needs}

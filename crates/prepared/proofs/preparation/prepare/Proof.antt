@@ -1,4 +1,4 @@
--- The parts, one behind the other (`PartLaws`), and what they are for (`PreparedLaws`). Assumes nothing.
+-- The parts, one after the other (`PartLaws`), and what they are for (`PreparedLaws`). Assumes nothing.
 use Rattle.prepared.proofs.PartLaws.{all-held}
 use Rattle.prepared.proofs.PreparedLaws.{prepared-by}
 use borrow.Author.Needs.{needs}

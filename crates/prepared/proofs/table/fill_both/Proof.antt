@@ -1,4 +1,4 @@
--- One table behind the other (`PartLaws`). Assumes nothing.
+-- One table after the other (`PartLaws`). Assumes nothing.
 use Rattle.prepared.proofs.PartLaws.{tables-held}
 use borrow.Author.Needs.{needs}
 use Rattle.prepared.proofs.table.fill_both.Statement.{statement}

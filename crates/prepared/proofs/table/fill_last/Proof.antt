@@ -1,4 +1,4 @@
--- The invariant: the bytes so far stand behind the table, which is as it was (`FillLaws`). Assumes nothing.
+-- The invariant: the bytes so far stand after the table, which is as it was (`FillLaws`). Assumes nothing.
 use mathlib.Core.Path.{_≡_, sym, _∙_}
 use Prim.Native.Nat.{_-_, _≤_}
 use native.Mathlib.Omega.{arith}

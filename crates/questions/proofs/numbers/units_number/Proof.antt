@@ -1,5 +1,5 @@
--- The sum is past the limit where the new units are more than what is left. From m = 64 on the units are fewer than 2^m, and below that it
--- is computed. Assumes nothing.
+-- The sum is past the limit where the new units are more than what is left. From m = 64 on the units are fewer than
+-- 2^m, and below that it is computed. Assumes nothing.
 use Prim.Native.Nat.{_+_, _^_, _≤_, _<_}
 use mathlib.Core.Path.{_≡_, refl}
 use mathlib.Core.Bool.{true}

@@ -1,4 +1,5 @@
--- `rules::numbers::mode_of` meets its contract: one test to a mode, and what none of them takes is CTR. Assumes nothing.
+-- `rules::numbers::mode_of` meets its contract: one test to a mode, and what none of them takes is CTR. Assumes
+-- nothing.
 use mathlib.Core.Path.{refl}
 use borrow.Author.Tests.{ne-eqb}
 use Rattle.rules.specs.Numbers.{modeOf}

@@ -1,4 +1,5 @@
--- `stealing::message::put_message` meets its contract: the feed and the last two blocks, put together by `MessageLaws`. Assumes nothing.
+-- `stealing::message::put_message` meets its contract: the feed and the last two blocks, put together by `MessageLaws`.
+-- Assumes nothing.
 use Prim.Native.Nat.{ℕ}
 use native.Mathlib.Omega.{arith}
 use lib.ListN.{length-drop}

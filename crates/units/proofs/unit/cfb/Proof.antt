@@ -1,4 +1,5 @@
--- The unit and the first bits of the encrypted register are added; the ciphertext segment is shifted in. Assumes nothing.
+-- The unit and the first bits of the encrypted register are added; the ciphertext segment is shifted in. Assumes
+-- nothing.
 use Rattle.bits.specs.Blocks.{Block}
 use Rattle.bits.proofs.Owned.{arrays}
 use Rattle.units.proofs.TurnLaws as Law

@@ -1,4 +1,4 @@
--- The window reads the unit, and the mode's rule works it. Assumes nothing.
+-- The window reads the unit, and the mode's rule processes it. Assumes nothing.
 use borrow.Author.Needs.{needs}
 use Rattle.units.proofs.unit.turn.Statement.{statement}
 use Rattle.units.proofs.unit.turn.Tie as tie

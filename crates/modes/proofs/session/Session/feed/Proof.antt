@@ -1,4 +1,5 @@
--- Refused: the session and the output as they were. Accepted: the units are worked in the part of the output that was named. Assumes nothing.
+-- Refused: the session and the output as they were. Accepted: the units are processed into the named part of the
+-- output. Assumes nothing.
 use Prim.Native.Nat.{ℕ}
 use mathlib.Core.Path.{_≡_, sym, ap, _∙_}
 use native.Mathlib.Omega.{arith}

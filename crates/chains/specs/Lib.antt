@@ -1,0 +1,2 @@
+-- What a chain of blocks gives.
+pub mod Chains

@@ -1,0 +1,12 @@
+-- `held::form::is_set` meets its contract. Assumes nothing.
+use mathlib.Core.Path.{refl}
+use Rattle.held.specs.Held.{isSet}
+use Rattle.held.proofs.form.is_set.Statement.{statement}
+use Rattle.held.proofs.form.is_set.Tie as tie
+
+returns : tie.Need-returns
+unfolding isSet
+returns c = refl
+
+pub is-set-spec : {M : Type 1} → statement M
+is-set-spec = tie.close (tie.spec returns)

@@ -1,0 +1,2 @@
+-- When there is a reason for a 12.
+pub mod Reasons
