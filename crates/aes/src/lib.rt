@@ -1,4 +1,6 @@
 // AES (FIPS 197): the public calls under a key. The crate `cipher` has the block functions, `expansion` the round keys.
+#![tactic(auto)]
+
 mod calls;
 
 pub use calls::{Answer, Schedule, decrypt, encrypt, expand, key_ok};

@@ -1,4 +1,6 @@
 // Bytes as bits: a window, a register's shift, bits put in place; XOR of blocks.
+#![tactic(auto)]
+
 mod block;
 mod place;
 mod read;

@@ -1,5 +1,7 @@
 // Calls each function of `bits` and `counter` at its edges and prints what it gave. The file `stdout` has what the
 // definitions give; expected.py, which shares nothing with the crate, writes it.
+#![tactic(auto)]
+
 ghost use Rattle.std.specs.Prelude.{◌≤◌, ◌<◌};
 
 use libc::STDOUT_FILENO;

@@ -1,4 +1,6 @@
 // SubBytes of single bytes: the table of FIPS 197, figure 7, that of the inverse by its formula, and their use.
+#![tactic(auto)]
+
 ghost use Rattle.std.specs.Prelude.{◌≡◌, get_or};
 ghost use Rattle.field.specs.Rows.{four};
 ghost use Rattle.field.specs.Field.{inverse};

@@ -1,1 +1,2 @@
 // Lists of calls of any kind, in specs/, with their laws. No code.
+#![tactic(auto)]

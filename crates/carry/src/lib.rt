@@ -1,4 +1,6 @@
 // Sessions of the release before request 07, whose units were a 32-bit number, carried over into today's.
+#![tactic(auto)]
+
 ghost use Rattle.std.specs.Prelude.{◌≡◌};
 ghost use Rattle.carry.specs.Older.{carried};
 

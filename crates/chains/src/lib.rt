@@ -1,5 +1,7 @@
 // Chains of blocks under a key that is expanded once: what a block costs, without the cost of a call and of an
 // expansion. For the benchmark alone: a static library of its own, which is not installed.
+#![tactic(auto)]
+
 ghost use Rattle.std.specs.Prelude.{◌≡◌};
 ghost use Rattle.aes.specs.Calls.{BlockAnswer};
 ghost use Rattle.chains.specs.Chains.{block_function, chain_of, chain_under};

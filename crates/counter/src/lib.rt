@@ -1,4 +1,6 @@
 // The counter of CTR: a block whose lowest m bits count.
+#![tactic(auto)]
+
 ghost use Rattle.std.specs.Prelude.{◌≡◌, ◌<◌};
 ghost use Rattle.bits.specs.Counter.{plus_one, increment};
 

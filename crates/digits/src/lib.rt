@@ -1,4 +1,6 @@
 // Bytes of a text: searched, tested, and hexadecimal digits to bytes and back.
+#![tactic(auto)]
+
 mod hex;
 mod scan;
 

@@ -1,4 +1,6 @@
 // Ciphertext stealing (request 03): the last two blocks of a message.
+#![tactic(auto)]
+
 ghost use Rattle.std.specs.Prelude.{◌≡◌, ◌++◌, ◌+◌, ◌≤◌, take};
 ghost use Rattle.bits.specs.Texts.{bits};
 ghost use Rattle.cipher.specs.Cipher.{Enc, Dec};

@@ -1,4 +1,6 @@
 // Key expansion (FIPS 197 section 5.2).
+#![tactic(auto)]
+
 ghost use Rattle.std.specs.Prelude.{◌≡◌, ◌+◌, ◌-◌, ◌*◌, ◌/◌, ◌≤◌, ◌<◌, true, ◌++◌, length, take, drop, replicate};
 ghost use Rattle.bits.specs.Xor.{xor_bytes};
 ghost use Rattle.field.specs.Rows.{word_at};

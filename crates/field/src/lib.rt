@@ -1,4 +1,6 @@
 // Bytes as elements of GF(2^8) with the polynomial 11b (FIPS 197 section 4).
+#![tactic(auto)]
+
 mod arithmetic;
 mod rows;
 

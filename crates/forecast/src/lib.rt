@@ -1,5 +1,7 @@
 // What a feed will cost, from mode, n and a bit count: the bytes that it will write and the runs of the block
 // cipher that it will make. Nothing is run.
+#![tactic(auto)]
+
 ghost use Rattle.std.specs.Prelude.{◌≡◌};
 ghost use Rattle.forecast.specs.Costs.{forecast_number, ForecastBy};
 

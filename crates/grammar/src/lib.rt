@@ -1,4 +1,6 @@
 // Document 01, "The text program": the form of its input.
+#![tactic(auto)]
+
 mod form;
 mod reading;
 

@@ -1,4 +1,6 @@
 // Document 01, "The text program": the first line of its input, and its words.
+#![tactic(auto)]
+
 mod line;
 mod words;
 

@@ -1,4 +1,6 @@
 // One CBC block by itself, and whether two sessions are alike (document 01, "Padding, one block, comparison").
+#![tactic(auto)]
+
 mod compare;
 
 pub use compare::alike;

@@ -1,4 +1,6 @@
 // The text program on slices: from the whole input to the whole output.
+#![tactic(auto)]
+
 mod print;
 
 ghost use Rattle.std.specs.Prelude.{◌≤◌, length};

@@ -1,5 +1,7 @@
 // Document 01, "The text program": reads standard input, writes the answer, and for a refusal the reason on standard
 // error.
+#![tactic(auto)]
+
 mod words;
 
 ghost use Rattle.std.specs.Prelude.{◌+◌, ◌≤◌, length};

@@ -1,4 +1,6 @@
 // Sessions over AES: open one, feed it, and it comes back moved.
+#![tactic(auto)]
+
 mod session;
 mod work;
 

@@ -1,5 +1,7 @@
 // From a counter block back to its number in the message: how many increments of the IV, in its lowest m bits, give the
 // block.
+#![tactic(auto)]
+
 ghost use Rattle.std.specs.Prelude.{◌≡◌, ◌-◌, ◌*◌, ◌^◌, ◌≤◌, ◌<◌, min};
 ghost use Rattle.bits.specs.Counter.{number_bytes};
 ghost use Rattle.places.specs.Answers.{upper_same, of_block_number, increments_between, Minus, ToldBy};

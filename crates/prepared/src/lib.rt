@@ -1,6 +1,8 @@
 // Enc and Dec once more, for many blocks under one key: what a block needs is prepared once, in an array that the
 // caller lends, and lent to each block. The crate `cipher` follows FIPS 197 step by step on the square state. Both are
 // driven by tables, which are read at indices that depend on the key.
+#![tactic(auto)]
+
 mod counted;
 mod keys;
 mod layout;

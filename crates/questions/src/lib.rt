@@ -1,4 +1,6 @@
 // Document 01, "Questions before work": each function here answers one question; `numbers` has the calls' lists.
+#![tactic(auto)]
+
 mod numbers;
 
 ghost use Rattle.std.specs.Prelude.{◌≡◌, ◌%◌, eqb};

@@ -1,5 +1,7 @@
 // Why the text program answers 12: the line of its input that does not have its form, and what is wrong there. What is
 // found is for a person to read; proved is that there is a reason exactly where the answer is 12, one of those below.
+#![tactic(auto)]
+
 mod find;
 
 ghost use Rattle.reasons.specs.Reasons.{ReasonFor};

@@ -28,6 +28,8 @@
 // one that is too long: INPUT, TEXT and OUTLEN have at most `MAX_BYTES` bytes, and the whole line, without its line
 // feed, `MAX_LINE` (both in the crate `script`). So does `carry` where the units do not fit in the older release's 32
 // bits. A last line that no line feed ends counts if it is not empty.
+#![tactic(auto)]
+
 mod archive;
 mod blocks;
 mod commands;

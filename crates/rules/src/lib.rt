@@ -1,4 +1,6 @@
 // The modes' vocabulary. What each mode does to a unit stands in specs/, over any two block functions.
+#![tactic(auto)]
+
 mod numbers;
 
 ghost use Rattle.std.specs.Prelude.{◌≡◌};

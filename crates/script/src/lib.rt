@@ -1,4 +1,6 @@
 // What a program that runs written lists of calls needs: a line's words, read by a form, and the text of the answers.
+#![tactic(auto)]
+
 mod form;
 mod hex;
 mod kinds;

@@ -1,4 +1,6 @@
 // One block of a CBC ciphertext: its neighbour, and its plaintext.
+#![tactic(auto)]
+
 ghost use Rattle.std.specs.Prelude.{◌≡◌};
 ghost use Rattle.bits.specs.Xor.{xor_bytes};
 ghost use Rattle.cipher.specs.Cipher.{Dec};

@@ -1,4 +1,6 @@
 // AES (FIPS 197): the square state, and the steps of a round on it.
+#![tactic(auto)]
+
 mod round;
 mod state;
 

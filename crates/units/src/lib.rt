@@ -1,4 +1,6 @@
 // One unit of a text, by its mode's rule.
+#![tactic(auto)]
+
 mod unit;
 
 pub use unit::{Step, runs_dec, turn};
