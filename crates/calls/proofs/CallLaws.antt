@@ -12,8 +12,8 @@ module _ {State Call : Type 0} {Step : State → Call → State → Type 0} wher
 
   pub parted : {s end : State} (before : List Call) {after : List Call} → Calls Step s (before ++ after) end → Between Step s before after end
   parted {s} [] calls = record { state = s; up_to = empty; from_there = calls }
-  parted (c ∷ before) (call here calls) =
-      let rest = parted before calls in
+  parted {s = s} {end = end} (c ∷ before) {after = after} (call {next = next} here calls) =
+      let rest = parted {s = next} before calls in
       record { state = rest.state; up_to = call here rest.up_to; from_there = rest.from_there }
 
   pub same-last : ((s next other : State) (c : Call) → Step s c next → Step s c other → next ≡ other)

@@ -1,0 +1,9 @@
+-- The weighted sum of the four bytes is the number that they write (`RowLaws`). Assumes nothing.
+use mathlib.Core.Path.{◌∙◌}
+use lib.ListN.{get_or}
+use Rattle.field.proofs.RowLaws.{join_four}
+use borrow.Author.Rules.{rules}
+use Rattle.field.proofs.rows.join_row.Goals as goal
+
+pub returns : goal.returns
+returns c = c.weighted.ensures ∙ join_four (λ i. get_or c.args.row i 0)
