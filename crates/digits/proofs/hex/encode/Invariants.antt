@@ -1,0 +1,18 @@
+-- `digits::hex::encode` meets its contract. The loop's invariant: the digits of i bytes are written, and no other byte
+-- is changed. Assumes nothing.
+use mathlib.Core.Path.{◌≡◌, refl, sym, ◌∙◌}
+use Prim.Native.Nat.{◌+◌, ◌*◌, ◌≤◌, ◌-◌}
+use native.Mathlib.Omega.{arith}
+use borrow.Author.Tests.{le-leb, lt-leb}
+use borrow.Author.Rules.{rules}
+use lib.Seq.{paste-zero, paste}
+use lib.ListN.{length, length-set}
+use Rattle.digits.specs.Texts.{hex_text, encoded_into}
+use Rattle.digits.proofs.DigitLaws.{length-hex_text, high_digit, low_digit, pasted_pair}
+use Rattle.digits.proofs.hex.encode.Given as goal
+
+abbrev pub invariant-loop-i : goal.invariant-loop-i
+invariant-loop-i l = (l.i ≤ length l.bytes) × (l.out ≡ paste l.initial.out l.at (hex_text l.bytes) (l.i * 2)) × (length l.out ≡ length l.initial.out)
+
+abbrev pub decreases-loop-i : goal.decreases-loop-i
+decreases-loop-i l = length l.bytes - l.i
