@@ -4,14 +4,14 @@ ghost use Rattle.std.specs.Prelude.{◌≡◌};
 ghost use Rattle.cipher.specs.Cipher.{Enc, Dec};
 ghost use Rattle.aes.specs.Calls.{key_ok, encrypted, decrypted, Expanded, BlockAnswer};
 
-#[derive(Drop)]
+#[derive(Clone, Copy)]
 pub struct Schedule {
     pub number: u8,
     pub rounds: usize,
     pub keys: [u8; 240],
 }
 
-#[derive(Drop)]
+#[derive(Clone, Copy)]
 pub struct Answer {
     pub number: u8,
     pub block: [u8; 16],

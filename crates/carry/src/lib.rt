@@ -8,7 +8,7 @@ use modes::Session;
 use rules::{Direction, Mode};
 
 // The session as that release had it: its parts, in its order.
-#[derive(Drop)]
+#[derive(Clone, Copy)]
 pub struct Session32 {
     pub mode: Mode,
     pub direction: Direction,

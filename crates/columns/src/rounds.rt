@@ -6,7 +6,7 @@ ghost use Rattle.columns.specs.Inner.Rounds.{drawn, round_column, last_column, t
 use crate::layout::Prepared;
 use crate::{layout, words};
 
-#[derive(Drop)]
+#[derive(Clone, Copy)]
 pub struct Columns {
     pub a: u32,
     pub b: u32,

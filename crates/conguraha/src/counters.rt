@@ -4,7 +4,7 @@ ghost use Rattle.conguraha.specs.Answers.{HeldForecastBy, place_of};
 
 // What an accepted feed of a given number of bits will write and run; zeros where it is refused.
 #[repr(C)]
-#[derive(Drop)]
+#[derive(Clone, Copy)]
 pub struct Forecast {
     pub bytes: usize,
     pub runs: usize,
@@ -34,7 +34,7 @@ pub extern "C" fn conguraha1_forecast(mode: usize, n: usize, bits: usize) -> For
 // How often the IV was counted up, in its lowest m bits, to give the block: 16 bytes, highest first, and zero bytes
 // where it is refused.
 #[repr(C)]
-#[derive(Drop)]
+#[derive(Clone, Copy)]
 pub struct CounterPlace {
     pub increments: [u8; 16],
     pub number: usize,

@@ -7,7 +7,7 @@ ghost use Rattle.conguraha.specs.Answers.{padded_of, unpadded_of, NeighbourAt};
 
 // How many bits a padded text has, or a text before its padding; 0 where it is refused.
 #[repr(C)]
-#[derive(Drop)]
+#[derive(Clone, Copy)]
 pub struct Length {
     pub bits: usize,
     pub number: usize,
@@ -84,7 +84,7 @@ pub extern "C" fn conguraha1_cbc_block<'a>(
 // A part of what was handed over: `length` bytes from `offset` on, of the IV where `source` is 0, of the ciphertext
 // where it is 1. Where it is refused all three are 0, and the part is empty.
 #[repr(C)]
-#[derive(Drop)]
+#[derive(Clone, Copy)]
 pub struct Neighbour {
     pub offset: usize,
     pub length: usize,

@@ -12,7 +12,7 @@ use questions::BLOCK_BITS;
 use rules::Direction;
 
 // The block before the end, and the end, whose bits stand first in its 16 bytes.
-#[derive(Drop)]
+#[derive(Clone, Copy)]
 pub struct Ending {
     pub block: [u8; 16],
     pub end: [u8; 16],

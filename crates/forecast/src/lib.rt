@@ -8,7 +8,7 @@ ghost use Rattle.forecast.specs.Costs.{forecast_number, ForecastBy};
 use rules::Mode;
 
 // The number, 0 or that of the first question answered 'no', and what an accepted feed costs.
-#[derive(Drop)]
+#[derive(Clone, Copy)]
 pub struct Cost {
     pub number: u8,
     pub bytes: usize,

@@ -15,14 +15,14 @@ pub const MAX_KEY_DIGITS: usize = 128;
 pub const MAX_DATA_DIGITS: usize = 8192;
 
 // A line of digits: how many they are, and the index after the line feed.
-#[derive(Drop)]
+#[derive(Clone, Copy)]
 pub enum Digits {
     Line { len: usize, next: usize },
     Bad,
 }
 
 // The first line's words, and for each other line where its digits start and how many they are.
-#[derive(Drop)]
+#[derive(Clone, Copy)]
 pub enum Form {
     Lines {
         mode: Mode,

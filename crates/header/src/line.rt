@@ -7,7 +7,7 @@ use crate::words::{Decimal, DirectionWord, ModeWord, direction_word, mode_word, 
 use digits::up_to;
 use rules::{Direction, Mode};
 
-#[derive(Drop)]
+#[derive(Clone, Copy)]
 pub enum Header {
     Line {
         mode: Mode,

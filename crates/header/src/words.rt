@@ -6,19 +6,19 @@ ghost use Rattle.header.specs.Answers.{mode_in, direction_in, number_in};
 use digits::between;
 use rules::{Direction, Mode};
 
-#[derive(Drop)]
+#[derive(Clone, Copy)]
 pub enum ModeWord {
     Named(Mode),
     Bad,
 }
 
-#[derive(Drop)]
+#[derive(Clone, Copy)]
 pub enum DirectionWord {
     Named(Direction),
     Bad,
 }
 
-#[derive(Drop)]
+#[derive(Clone, Copy)]
 pub enum Decimal {
     Number(usize),
     Bad,

@@ -9,14 +9,14 @@ use modes::Session;
 pub const NO_MODE: usize = 64;
 
 #[repr(C)]
-#[derive(Drop)]
+#[derive(Clone, Copy)]
 pub struct HeldOpened {
     pub session: HeldSession,
     pub number: usize,
 }
 
 #[repr(C)]
-#[derive(Drop)]
+#[derive(Clone, Copy)]
 pub struct HeldFed {
     pub session: HeldSession,
     pub runs: usize,

@@ -6,7 +6,7 @@ use modes::Session;
 
 // A session. The spare bytes fill the struct up to whole words; an opening writes them 0, and no call looks at them.
 #[repr(C)]
-#[derive(Drop)]
+#[derive(Clone, Copy)]
 pub struct HeldSession {
     pub units: u64,
     pub mode: usize,
@@ -23,7 +23,7 @@ pub struct HeldSession {
 // A session of the older release, whose units were a 32-bit number, with its fields where that release's header had
 // them.
 #[repr(C)]
-#[derive(Drop)]
+#[derive(Clone, Copy)]
 pub struct HeldSession32 {
     pub mode: usize,
     pub decrypting: u8,

@@ -8,7 +8,7 @@ use crate::work;
 use rules::{Direction, Mode};
 
 // A session, as document 01 lists it, and m. `n` is the unit's bits, `m` those of the counter, `register` is R.
-#[derive(Drop)]
+#[derive(Clone, Copy)]
 pub struct Session {
     pub mode: Mode,
     pub direction: Direction,
@@ -23,13 +23,13 @@ pub struct Session {
 
 // What an opening and a feed give: the number, 0 or that of the first question answered 'no', and the session. Of a
 // feed also the runs of the block cipher that it made.
-#[derive(Drop)]
+#[derive(Clone, Copy)]
 pub struct Opened {
     pub number: u8,
     pub session: Session,
 }
 
-#[derive(Drop)]
+#[derive(Clone, Copy)]
 pub struct Fed {
     pub number: u8,
     pub session: Session,

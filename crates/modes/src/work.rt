@@ -9,7 +9,7 @@ use crate::session::Session;
 use prepared::Prepared;
 
 // What units leave: R after them, and the runs of the block function that they took.
-#[derive(Drop)]
+#[derive(Clone, Copy)]
 pub struct Progress {
     pub register: [u8; 16],
     pub runs: usize,

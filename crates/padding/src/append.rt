@@ -9,7 +9,7 @@ use modes::Session;
 use questions::BLOCK_BITS;
 
 // The number, and the padded text's length in bits, 0 when refused.
-#[derive(Drop)]
+#[derive(Clone, Copy)]
 pub struct Padded {
     pub number: u8,
     pub bits: usize,

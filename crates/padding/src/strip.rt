@@ -8,7 +8,7 @@ use modes::Session;
 use questions::BLOCK_BITS;
 
 // The number, and how many bits the text has, 0 when refused.
-#[derive(Drop)]
+#[derive(Clone, Copy)]
 pub struct Unpadded {
     pub number: u8,
     pub bits: usize,

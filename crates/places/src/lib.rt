@@ -10,7 +10,7 @@ use rules::Mode;
 
 // The number, 0 or that of the first question answered 'no', and how many increments there are: a number of 16 bytes,
 // highest first, and 0 where it is refused.
-#[derive(Drop)]
+#[derive(Clone, Copy)]
 pub struct Place {
     pub number: u8,
     pub increments: [u8; 16],
@@ -61,7 +61,7 @@ fn number(iv: [u8; 16], block: [u8; 16], m: usize) -> u8
 }
 
 // A byte of a difference, and what it borrows from the byte before it.
-#[derive(Drop)]
+#[derive(Clone, Copy)]
 struct Digit {
     value: u8,
     borrow: u32,

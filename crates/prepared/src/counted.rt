@@ -4,7 +4,7 @@ ghost use Rattle.prepared.specs.Prepared.{prepared_block, Counted};
 use crate::layout::Prepared;
 
 // What the block function made of a block, and the runs that it took.
-#[derive(Drop)]
+#[derive(Clone, Copy)]
 pub struct Ran {
     pub block: [u8; 16],
     pub runs: usize,

@@ -10,7 +10,7 @@ use digits::{between, up_to};
 use header::{DirectionWord, ModeWord};
 
 // The line, counted from 1, and what is wrong there; 0 and `NONE` where nothing is.
-#[derive(Drop)]
+#[derive(Clone, Copy)]
 pub struct Reason {
     pub line: u8,
     pub what: u8,

@@ -8,7 +8,7 @@ ghost use Rattle.rules.specs.Lengths.{unit_length_ok, counter_length_ok};
 
 pub use numbers::{MODES, decrypts, direction_of, mode_number, mode_of};
 
-#[derive(Drop)]
+#[derive(Clone, Copy)]
 pub enum Mode {
     Ecb,
     Cbc,
@@ -17,7 +17,7 @@ pub enum Mode {
     Ctr,
 }
 
-#[derive(Drop)]
+#[derive(Clone, Copy)]
 pub enum Direction {
     Encrypt,
     Decrypt,

@@ -8,7 +8,7 @@ ghost use Rattle.units.specs.Inner.Turns.{runs_dec, Turned, unit_size_ok};
 use prepared::Prepared;
 use rules::{Direction, Mode};
 
-#[derive(Drop)]
+#[derive(Clone, Copy)]
 pub struct Step {
     pub out: [u8; 16],
     pub register: [u8; 16],
