@@ -1,0 +1,12 @@
+-- The entries add up byte by byte (`ColumnLaws`). Assumes nothing.
+use Rattle.bits.specs.Xor.{xor}
+use Rattle.columns.proofs.ColumnLaws.{round-column}
+use borrow.Author.Rules.{rules}
+use Rattle.columns.proofs.rounds.round_word.Goals as goal
+
+pub returns : goal.returns
+unfolding xor
+returns c =
+    let start = c in
+    let a = start.args in
+    round-column a.prepared.now a.a a.b a.c a.d a.key start.ranges.d.fits

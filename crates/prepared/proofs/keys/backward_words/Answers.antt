@@ -1,0 +1,11 @@
+-- By cases on the rounds (`KeyLaws`). Assumes nothing.
+use mathlib.Core.Path.{sym, ◌∙◌}
+use Rattle.prepared.proofs.KeyLaws.{scheduled-backward, scheduled-refused}
+use borrow.Author.Rules.{rules}
+use Rattle.prepared.proofs.keys.backward_words.Goals as goal
+
+pub returns-then-rounds_ok : goal.returns-then-rounds_ok
+returns-then-rounds_ok c = scheduled-backward _ _ (sym c.rounds_ok.ensures ∙ c.if-rounds_ok.true) c.reversed_words.ensures c.unmix_middle.ensures
+
+pub returns-else-rounds_ok : goal.returns-else-rounds_ok
+returns-else-rounds_ok c = scheduled-refused _ _ (sym c.rounds_ok.ensures ∙ c.if-rounds_ok.false)

@@ -1,0 +1,16 @@
+-- The invariant: the words so far are in the order of decryption, and the others are zero (`FillLaws`). Assumes
+-- nothing.
+use mathlib.Core.Path.{◌≡◌, refl}
+use Prim.Native.Nat.{◌+◌, ◌-◌, ◌*◌, ◌≤◌}
+use native.Mathlib.Omega.{arith}
+use lib.ListN.{length, length-set}
+use Rattle.cipher.proofs.RoundLaws.{rounds_bounds}
+use Rattle.prepared.specs.Inner.Parts.{Holds, reversed_rule, zero_from}
+use Rattle.prepared.proofs.FillLaws.{zero_bytes, zero-next, zero_all}
+use Rattle.prepared.proofs.keys.reversed_words.Given as goal
+
+abbrev pub invariant-loop-i : goal.invariant-loop-i
+invariant-loop-i l = (l.i ≤ 4 * l.rounds + 4) × (l.rounds ≤ 14) × (length l.reversed ≡ 60) × Holds 60 (zero_from l.i (reversed_rule l.rounds l.keys)) l.reversed
+
+abbrev pub decreases-loop-i : goal.decreases-loop-i
+decreases-loop-i l = 4 * l.rounds + 4 - l.i
