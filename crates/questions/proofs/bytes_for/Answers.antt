@@ -5,4 +5,5 @@ use borrow.Author.Rules.{rules}
 use Rattle.questions.proofs.bytes_for.Goals as goal
 
 pub returns : goal.returns
-returns c = c.Units-in.ensures
+unfolding bytes_for units_in
+returns c = c.units_in.ensures
