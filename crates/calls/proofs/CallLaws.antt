@@ -1,5 +1,5 @@
 -- Lists of calls joined and split, their last state, what they keep, and the refused ones left out. Assumes nothing.
-use mathlib.Core.Path.{◌≡◌, refl, sym}
+use mathlib.Core.Path.{◌≡◌, refl}
 use mathlib.Core.Bool.{Bool, true, false, cond}
 use mathlib.Core.List.{List, [], ◌∷◌, ◌++◌}
 use Rattle.calls.specs.Calls.{Calls, empty, call, those}

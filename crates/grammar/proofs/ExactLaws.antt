@@ -12,7 +12,7 @@ use lib.ListN.{length}
 use Rattle.digits.specs.Texts.{given, ◌>>=◌, Cut, cut, hex_bytes, digits_fit}
 use Rattle.header.specs.Header.{First, first_of}
 use Rattle.grammar.specs.Grammar.{max_key_digits, max_data_digits, HexLine, hex_line, behind_first, request}
-use Rattle.grammar.specs.Reading.{is_some, LineForm, first_form, digits_form, text_lines, by_cut, ends_in, reading_ends, open_in, EndsExactly}
+use Rattle.grammar.specs.Reading.{is_some, LineForm, first_form, digits_form, text_lines, ends_in, reading_ends, open_in, EndsExactly}
 use Rattle.grammar.proofs.EndedLaws.{bind_bind}
 
 abbrev Exact : {A : Type 0} → List LineForm → (List ℕ → Option A) → Type 0

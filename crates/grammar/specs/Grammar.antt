@@ -9,7 +9,7 @@ use Rattle.std.specs.Prelude.{ℕ, List, eqb, length}
 use Rattle.std.proofs.Math.Option.{Option}
 use Rattle.rules.specs.declared.Mode.{Mode}
 use Rattle.rules.specs.declared.Direction.{Direction}
-use Rattle.digits.specs.Texts.{given, ◌>>=◌, Cut, cut, digits_fit, hex_bytes}
+use Rattle.digits.specs.Texts.{given, ◌>>=◌, cut, digits_fit, hex_bytes}
 use Rattle.header.specs.Header.{First, first_of}
 
 -- ---- the lines of digits

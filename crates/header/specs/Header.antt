@@ -12,7 +12,7 @@ use Rattle.rules.specs.declared.Mode.{Mode}
 use Rattle.rules.specs.declared.Mode.TheVariants.{Ecb, Cbc, Cfb, Ofb, Ctr}
 use Rattle.rules.specs.declared.Direction.{Direction}
 use Rattle.rules.specs.declared.Direction.TheVariants.{Encrypt, Decrypt}
-use Rattle.digits.specs.Texts.{given, ◌>>=◌, Cut, cut, all, is_decimal, count_on}
+use Rattle.digits.specs.Texts.{given, ◌>>=◌, cut, all, is_decimal, count_on}
 
 -- Are the texts equal?
 unfoldable pub same : List ℕ → List ℕ → Bool

@@ -1,5 +1,5 @@
 -- Which lengths a mode takes, in plain numbers: each test's 'yes' is its sentence. Assumes nothing.
-use Prim.Native.Nat.{ℕ, ◌%◌, ◌≤◌}
+use Prim.Native.Nat.{ℕ, ◌%◌}
 use mathlib.Core.Path.{◌≡◌, refl}
 use mathlib.Core.Logic.{◌↔◌, ◌⊎◌, inl, inr}
 use mathlib.Core.Bool.{true, ◌&&◌, and-eq-true_iff}

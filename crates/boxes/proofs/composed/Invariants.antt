@@ -1,10 +1,7 @@
 -- The invariant: the entries so far are those of `outer` at the entries of `inner`. Assumes nothing.
-use mathlib.Core.Path.{refl}
 use Prim.Native.Nat.{◌-◌}
-use native.Mathlib.Omega.{arith}
 use lib.ListN.{get_or}
-use borrow.Author.Rules.{rules}
-use Rattle.boxes.proofs.TableLaws.{Filled, filled_none, filled_next, filled-all}
+use Rattle.boxes.proofs.TableLaws.{Filled}
 use Rattle.boxes.proofs.composed.Given as goal
 
 abbrev pub invariant-loop-i : goal.invariant-loop-i

@@ -1,5 +1,4 @@
 -- The formula is the one step after the other (`TableLaws`). Assumes nothing.
-use borrow.Author.Rules.{rules}
 use Rattle.boxes.specs.Boxes.{inv_sub_byte}
 use Rattle.boxes.proofs.BoxLaws.{unaffine_byte}
 use Rattle.boxes.proofs.TableLaws.{tabulates_composed}

@@ -1,12 +1,9 @@
 -- The invariant: the entries so far are the inverses of their places. Assumes nothing.
-use mathlib.Core.Path.{refl, ap, ◌∙◌}
-use Prim.Native.Nat.{◌-◌}
+use mathlib.Core.Path.{ap, ◌∙◌}
 use native.Mathlib.Omega.{arith}
-use borrow.Author.Rules.{rules}
-use Rattle.field.specs.Field.{inverse}
 use Rattle.boxes.specs.Boxes.{unaffine}
 use Rattle.boxes.proofs.BoxLaws.{unaffine_sub}
-use Rattle.boxes.proofs.TableLaws.{Filled, filled_none, filled_next, filled-all}
+use Rattle.boxes.proofs.TableLaws.{filled_next}
 use Rattle.boxes.proofs.inverse_table.Goals as goal
 
 pub loop-i-preserved : goal.loop-i-preserved

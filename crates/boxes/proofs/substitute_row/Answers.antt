@@ -1,7 +1,6 @@
 -- Each of the four calls gives an entry of the table. Assumes nothing.
 use mathlib.Core.Path.{refl}
 use Rattle.field.specs.Rows.{four}
-use borrow.Author.Rules.{rules}
 use Rattle.boxes.proofs.substitute_row.Goals as goal
 
 pub returns : goal.returns

@@ -1,10 +1,7 @@
 -- The invariant: the entries so far are the map undone of their places. Assumes nothing.
-use mathlib.Core.Path.{refl}
 use Prim.Native.Nat.{◌-◌}
-use native.Mathlib.Omega.{arith}
-use borrow.Author.Rules.{rules}
 use Rattle.boxes.specs.Boxes.{unaffine}
-use Rattle.boxes.proofs.TableLaws.{Filled, filled_none, filled_next, filled-all}
+use Rattle.boxes.proofs.TableLaws.{Filled}
 use Rattle.boxes.proofs.unaffine_table.Given as goal
 
 abbrev pub invariant-loop-i : goal.invariant-loop-i

@@ -1,13 +1,12 @@
 -- `counter::increment_bytes` meets its contract. The loop's invariant: the bytes from i on are done, and the number
 -- before them still takes 1 in its lowest m - 8 (16 - i) bits. Assumes nothing.
 use mathlib.Core.Path.{◌≡◌}
-use mathlib.Core.Logic.{⊎_elim}
 use Prim.Native.Nat.{suc, ◌≤◌, ◌<◌, ◌-◌, ◌+◌, ◌*◌, ◌/◌, ◌%◌}
 use native.Mathlib.Omega.{arith}
 use borrow.Author.Rules.{rules}
 use lib.ListN.{get_or}
 use Rattle.bits.proofs.Owned.{arrays}
-use Rattle.counter.proofs.Overflows.{Overflowing, start, over, last, stop, overflow}
+use Rattle.counter.proofs.Overflows.{start, over, last, stop, overflow}
 use Rattle.counter.proofs.increment_bytes.Goals as goal
 
 -- the byte that the turn looks at

@@ -1,13 +1,7 @@
 -- `counter::increment_bytes` meets its contract. The loop's invariant: the bytes from i on are done, and the number
 -- before them still takes 1 in its lowest m - 8 (16 - i) bits. Assumes nothing.
-use mathlib.Core.Path.{◌≡◌}
-use mathlib.Core.Logic.{⊎_elim}
-use Prim.Native.Nat.{suc, ◌≤◌, ◌<◌, ◌-◌, ◌+◌, ◌*◌, ◌/◌, ◌%◌}
-use native.Mathlib.Omega.{arith}
-use borrow.Author.Rules.{rules}
-use lib.ListN.{get_or}
-use Rattle.bits.proofs.Owned.{arrays}
-use Rattle.counter.proofs.Overflows.{Overflowing, start, over, last, stop, overflow}
+use Prim.Native.Nat.{◌≤◌, ◌-◌, ◌*◌}
+use Rattle.counter.proofs.Overflows.{Overflowing}
 use Rattle.counter.proofs.increment_bytes.Given as goal
 
 abbrev pub invariant-loop-i : goal.invariant-loop-i

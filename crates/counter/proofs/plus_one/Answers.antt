@@ -1,10 +1,8 @@
 -- `counter::plus_one` meets its contract: the code is the definition, and each step fits a byte. Assumes nothing.
 use mathlib.Core.Path.{◌≡◌}
 use Prim.Native.Nat.{◌*◌, ◌%◌, ◌^◌, ◌≤◌}
-use native.Mathlib.Nat.{mod-lt}
 use native.Mathlib.Omega.{arith}
-use borrow.Author.Rules.{rules}
-use lib.Pow.{pow_pos, pow_mono, split}
+use lib.Pow.{pow_mono}
 use Rattle.bits.specs.Counter.{plus_one}
 use Rattle.bits.proofs.Counting.{plus_one_lt}
 use Rattle.counter.proofs.plus_one.Goals as goal

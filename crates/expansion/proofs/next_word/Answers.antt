@@ -2,7 +2,6 @@
 use mathlib.Core.Path.{ap, ap₂, ◌∙◌}
 use Rattle.bits.specs.Xor.{xor_bytes}
 use Rattle.expansion.specs.KeyExpansion.{temp, next_word}
-use borrow.Author.Rules.{rules}
 use Rattle.expansion.proofs.next_word.Goals as goal
 
 pub returns : goal.returns

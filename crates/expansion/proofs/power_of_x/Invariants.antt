@@ -1,10 +1,6 @@
 -- The value is x^i after i turns. Assumes nothing.
-use mathlib.Core.Path.{◌≡◌, refl, ap, ◌∙◌}
+use mathlib.Core.Path.{◌≡◌}
 use Prim.Native.Nat.{◌-◌, ◌≤◌}
-use native.Mathlib.Numerals.{add-one}
-use native.Mathlib.Omega.{arith}
-use borrow.Author.Rules.{rules}
-use Rattle.field.specs.Field.{double}
 use Rattle.expansion.specs.KeyExpansion.{power}
 use Rattle.expansion.proofs.power_of_x.Given as goal
 

@@ -1,11 +1,11 @@
 -- The words so far, then 0 (`KeyLaws`). Assumes nothing.
 use mathlib.Core.Path.{◌≡◌, sym, ap, ◌∙◌}
-use Prim.Native.Nat.{◌+◌, ◌-◌, ◌*◌, ◌/◌, ◌≤◌}
+use Prim.Native.Nat.{◌+◌, ◌-◌, ◌*◌, ◌/◌}
 use native.Mathlib.Omega.{arith}
 use lib.ListN.{length}
 use Rattle.expansion.specs.KeyExpansion.{schedule}
 use Rattle.expansion.proofs.Filled.{filled}
-use Rattle.expansion.proofs.KeyLaws.{KeyWords, key_words, schedule_none, schedule-more, round_keys-filled}
+use Rattle.expansion.proofs.KeyLaws.{key_words, schedule_none, schedule-more, round_keys-filled}
 use Rattle.expansion.proofs.round_keys.Goals as goal
 
 pub with_key-w-requires : goal.with_key-w-requires

@@ -1,11 +1,10 @@
 -- The words so far, then 0 (`KeyLaws`). Assumes nothing.
-use mathlib.Core.Path.{◌≡◌, sym, ap, ◌∙◌}
-use Prim.Native.Nat.{◌+◌, ◌-◌, ◌*◌, ◌/◌, ◌≤◌}
-use native.Mathlib.Omega.{arith}
+use mathlib.Core.Path.{◌≡◌}
+use Prim.Native.Nat.{◌-◌, ◌≤◌}
 use lib.ListN.{length}
 use Rattle.expansion.specs.KeyExpansion.{schedule}
 use Rattle.expansion.proofs.Filled.{filled}
-use Rattle.expansion.proofs.KeyLaws.{KeyWords, key_words, schedule_none, schedule-more, round_keys-filled}
+use Rattle.expansion.proofs.KeyLaws.{KeyWords}
 use Rattle.expansion.proofs.round_keys.Given as goal
 
 abbrev pub invariant-loop-i : goal.invariant-loop-i

@@ -6,8 +6,7 @@ use Rattle.bits.specs.Blocks.{Bytes}
 use Rattle.bits.proofs.Arrays.{array_bytes}
 use Rattle.field.specs.Rows.{four}
 use Rattle.expansion.specs.KeyExpansion.{rot_word, rcon}
-use Rattle.expansion.proofs.WordLaws.{table_word, rot_word_bytes, quotient_positive, temp-first, temp-middle, temp-other, temp-short}
-use borrow.Author.Rules.{rules}
+use Rattle.expansion.proofs.WordLaws.{table_word, rot_word_bytes, temp-first, temp-middle, temp-other, temp-short}
 use Rattle.expansion.proofs.temp_word.Goals as goal
 
 pub returns-then-i-nk-eq0 : goal.returns-then-i-nk-eq0

@@ -1,10 +1,8 @@
 -- The first i bytes of the key, then 0 (`Filled`). Assumes nothing.
-use mathlib.Core.Path.{◌≡◌, refl, ap, ◌∙◌}
+use mathlib.Core.Path.{◌≡◌}
 use Prim.Native.Nat.{◌-◌, ◌≤◌}
-use native.Mathlib.Omega.{arith}
-use lib.ListN.{length, get_or, take, set}
-use lib.Seq.{take-length}
-use Rattle.expansion.proofs.Filled.{filled, filled-set}
+use lib.ListN.{length, take}
+use Rattle.expansion.proofs.Filled.{filled}
 use Rattle.expansion.proofs.with_key.Given as goal
 
 abbrev pub invariant-loop-i : goal.invariant-loop-i

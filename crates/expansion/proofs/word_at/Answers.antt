@@ -1,7 +1,6 @@
 -- The code is the definition, but for a sum with 0. Assumes nothing.
 use native.Mathlib.Nat.{add-zero}
 use Rattle.field.specs.Rows.{four, word_at}
-use borrow.Author.Rules.{rules}
 use Rattle.expansion.proofs.word_at.Goals as goal
 
 pub returns : goal.returns

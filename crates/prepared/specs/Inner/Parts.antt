@@ -1,5 +1,5 @@
 -- What is prepared, part by part, and all of it by one rule.
-use Rattle.std.specs.Prelude.{ℕ, ◌+◌, ◌-◌, ◌*◌, ◌/◌, ◌%◌, ◌≤◌, ◌<◌, ◌≡◌, Bool, true, false, cond, List, [], ◌∷◌, ltb, get_or, replicate}
+use Rattle.std.specs.Prelude.{ℕ, ◌+◌, ◌-◌, ◌*◌, ◌/◌, ◌%◌, ◌≤◌, ◌<◌, ◌≡◌, Bool, true, cond, List, [], ◌∷◌, ltb, get_or, replicate}
 use Rattle.field.specs.Field.{product}
 use Rattle.boxes.specs.Boxes.{sub_byte, inv_sub_byte}
 use Rattle.field.specs.Rows.{four, word_at}

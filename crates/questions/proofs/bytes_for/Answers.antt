@@ -1,7 +1,6 @@
 -- A byte is a unit of 8 bits. Assumes nothing.
 use Rattle.bits.specs.Texts.{bytes_for}
 use Rattle.rules.specs.Rules.{units_in}
-use borrow.Author.Rules.{rules}
 use Rattle.questions.proofs.bytes_for.Goals as goal
 
 pub returns : goal.returns

@@ -1,9 +1,7 @@
 -- The rounds first, then n, then m. Assumes nothing.
 use mathlib.Core.Path.{◌≡◌, sym, ◌∙◌}
-use borrow.Author.Tests.{not-true, not-false}
 use Rattle.rules.specs.Lengths.{unit_length_ok}
 use Rattle.questions.specs.Questions.{session_ok}
-use borrow.Author.Rules.{rules}
 use Rattle.questions.proofs.session_ok.Goals as goal
 
 pub returns-then-not-rounds_ok : goal.returns-then-not-rounds_ok

@@ -1,11 +1,9 @@
 -- By the bits past the last whole unit. Assumes nothing.
 use Prim.Native.Nat.{ℕ, ◌+◌, ◌/◌}
 use mathlib.Core.Path.{sym, ap, ◌∙◌}
-use native.Mathlib.Nat.{add-zero, div-zero, mod-lt, pos_of_ne-zero, div-add-mod', le-mul_of_pos_right}
-use native.Mathlib.Omega.{arith}
+use native.Mathlib.Nat.{add-zero, div-zero, mod-lt, pos_of_ne-zero}
 use Rattle.rules.specs.Rules.{units_in}
 use Rattle.rules.proofs.Counts.{units_none, units_past, units_short}
-use borrow.Author.Rules.{rules}
 use Rattle.questions.proofs.units_in.Goals as goal
 
 pub returns-then-n-eq0 : goal.returns-then-n-eq0

@@ -1,7 +1,6 @@
 -- By the mode. Assumes nothing.
 use mathlib.Core.Path.{refl}
 use Rattle.rules.specs.Lengths.{whole_units}
-use borrow.Author.Rules.{rules}
 use Rattle.questions.proofs.whole_units.Goals as goal
 
 pub returns-in-Ecb : goal.returns-in-Ecb

@@ -2,7 +2,6 @@
 use mathlib.Core.Path.{ap₂, ◌∙◌}
 use Rattle.cipher.specs.Cipher.{Dec}
 use Rattle.aes.specs.Calls.{decrypted}
-use borrow.Author.Rules.{rules}
 use Rattle.aes.proofs.calls.decrypt.Goals as goal
 
 pub returns : goal.returns

@@ -2,7 +2,6 @@
 use mathlib.Core.Path.{ap₂, ◌∙◌}
 use Rattle.cipher.specs.Cipher.{Enc}
 use Rattle.aes.specs.Calls.{encrypted}
-use borrow.Author.Rules.{rules}
 use Rattle.aes.proofs.calls.encrypt.Goals as goal
 
 pub returns : goal.returns

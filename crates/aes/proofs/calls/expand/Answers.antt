@@ -1,7 +1,6 @@
 -- By cases on question 1 (`CallLaws`). Assumes nothing.
 use mathlib.Core.Path.{sym, ◌∙◌}
 use Rattle.aes.proofs.CallLaws.{key-accepted, key_refused}
-use borrow.Author.Rules.{rules}
 use Rattle.aes.proofs.calls.expand.Goals as goal
 
 pub returns-then-key_ok : goal.returns-then-key_ok

@@ -1,15 +1,10 @@
 -- The state is that of `rounds` before each round (`RoundLaws`). Assumes nothing.
-use mathlib.Core.Path.{◌≡◌, ap, ◌∙◌}
+use mathlib.Core.Path.{◌≡◌}
 use mathlib.Core.List.{List}
 use Prim.Native.Nat.{ℕ, ◌-◌, ◌≤◌}
-use native.Mathlib.Omega.{arith}
-use borrow.Author.Rules.{rules}
-use Rattle.steps.specs.State.{from_block}
 use Rattle.steps.specs.Steps.{add_round_key}
 use Rattle.cipher.specs.Cipher.{rounds}
 use Rattle.steps.proofs.StateLaws.{StateBytes}
-use Rattle.steps.proofs.Owned.{state_bytes}
-use Rattle.cipher.proofs.RoundLaws.{rounds_bounds, round_more, cipher-done}
 use Rattle.cipher.proofs.block.cipher_block.Given as goal
 
 abbrev pub invariant-loop-round : goal.invariant-loop-round

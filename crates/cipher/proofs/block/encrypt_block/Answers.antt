@@ -1,7 +1,6 @@
 -- Enc by cases on the rounds (`CipherLaws`). Assumes nothing.
 use mathlib.Core.Path.{sym, ◌∙◌}
 use Rattle.cipher.proofs.CipherLaws.{enc_cipher, enc_refused}
-use borrow.Author.Rules.{rules}
 use Rattle.cipher.proofs.block.encrypt_block.Goals as goal
 
 pub returns-then-rounds_ok : goal.returns-then-rounds_ok

@@ -3,7 +3,6 @@ use mathlib.Core.Path.{ap, ◌∙◌}
 use Rattle.steps.specs.State.{at}
 use Rattle.steps.specs.Steps.{shift_rows, mix_columns, add_round_key}
 use Rattle.steps.proofs.StepLaws.{add_rows}
-use borrow.Author.Rules.{rules}
 use Rattle.cipher.proofs.block.full_round.Goals as goal
 
 pub returns : goal.returns

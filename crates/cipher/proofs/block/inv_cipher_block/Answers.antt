@@ -1,11 +1,9 @@
 -- What is left to do on the state stays the same (`RoundLaws`). Assumes nothing.
 use mathlib.Core.Path.{◌≡◌, refl, ap, ◌∙◌}
-use Prim.Native.Nat.{◌-◌, ◌≤◌, ◌<◌}
+use Prim.Native.Nat.{◌-◌}
 use native.Mathlib.Omega.{arith}
-use borrow.Author.Rules.{rules}
 use Rattle.steps.specs.Steps.{add_round_key}
 use Rattle.cipher.specs.Cipher.{inv_rounds}
-use Rattle.steps.proofs.StateLaws.{StateBytes}
 use Rattle.steps.proofs.Owned.{state_bytes}
 use Rattle.cipher.proofs.RoundLaws.{rounds_bounds, round-less, invCipher-done}
 use Rattle.cipher.proofs.block.inv_cipher_block.Goals as goal

@@ -1,7 +1,6 @@
 -- Column by column (`ColumnLaws`). Assumes nothing.
 use Rattle.bits.specs.Xor.{xor}
 use Rattle.columns.proofs.ColumnLaws.{first_added}
-use borrow.Author.Rules.{rules}
 use Rattle.columns.proofs.block.add_words.Goals as goal
 
 pub returns : goal.returns

@@ -1,7 +1,6 @@
 -- By cases on the rounds (`RunLaws`). Assumes nothing.
 use mathlib.Core.Path.{sym, ◌∙◌}
 use Rattle.columns.proofs.RunLaws.{run-rounds, run-refused}
-use borrow.Author.Rules.{rules}
 use Rattle.columns.proofs.block.by_prepared.Goals as goal
 
 pub returns-then-rounds_ok : goal.returns-then-rounds_ok

@@ -1,13 +1,8 @@
 -- The words are the columns of the state of `rounds_by` before each round (`RunLaws`). Assumes nothing.
-use mathlib.Core.Path.{◌≡◌}
-use mathlib.Core.List.{List}
-use Prim.Native.Nat.{ℕ, ◌-◌, ◌≤◌}
 use native.Mathlib.Omega.{arith}
-use borrow.Author.Rules.{rules}
 use Rattle.steps.specs.State.{from_block}
 use Rattle.cipher.proofs.RoundLaws.{rounds_bounds}
-use Rattle.columns.specs.Inner.Words.{of_words}
-use Rattle.columns.specs.Inner.Rounds.{add_words, rounds_by, arranged}
+use Rattle.columns.specs.Inner.Rounds.{rounds_by, arranged}
 use Rattle.columns.proofs.RunLaws.{round_more, rounds_begun, rounds_done}
 use Rattle.columns.proofs.block.by_rounds.Goals as goal
 

@@ -2,13 +2,8 @@
 use mathlib.Core.Path.{◌≡◌}
 use mathlib.Core.List.{List}
 use Prim.Native.Nat.{ℕ, ◌-◌, ◌≤◌}
-use native.Mathlib.Omega.{arith}
-use borrow.Author.Rules.{rules}
-use Rattle.steps.specs.State.{from_block}
-use Rattle.cipher.proofs.RoundLaws.{rounds_bounds}
 use Rattle.columns.specs.Inner.Words.{of_words}
-use Rattle.columns.specs.Inner.Rounds.{add_words, rounds_by, arranged}
-use Rattle.columns.proofs.RunLaws.{round_more, rounds_begun, rounds_done}
+use Rattle.columns.specs.Inner.Rounds.{add_words, rounds_by}
 use Rattle.columns.proofs.block.by_rounds.Given as goal
 
 abbrev pub invariant-loop-round : goal.invariant-loop-round

@@ -3,7 +3,6 @@ use mathlib.Core.Path.{ap}
 use lib.Dec.{ltb}
 use Rattle.columns.specs.Inner.Rounds.{decrypts_by}
 use Rattle.columns.proofs.ByteLaws.{bottom}
-use borrow.Author.Rules.{rules}
 use Rattle.columns.proofs.block.decrypts.Goals as goal
 
 pub returns : goal.returns

@@ -1,6 +1,5 @@
 -- Column by column (`ColumnLaws`). Assumes nothing.
 use Rattle.columns.proofs.ColumnLaws.{loaded}
-use borrow.Author.Rules.{rules}
 use Rattle.columns.proofs.block.load.Goals as goal
 
 pub returns : goal.returns

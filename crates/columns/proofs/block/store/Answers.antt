@@ -1,6 +1,5 @@
 -- The columns, one after the other (`ColumnLaws`). Assumes nothing.
 use Rattle.columns.proofs.ColumnLaws.{stored}
-use borrow.Author.Rules.{rules}
 use Rattle.columns.proofs.block.store.Goals as goal
 
 pub returns : goal.returns

@@ -1,6 +1,5 @@
 -- Column by column (`ColumnLaws`). Assumes nothing.
 use Rattle.columns.proofs.ColumnLaws.{rounded}
-use borrow.Author.Rules.{rules}
 use Rattle.columns.proofs.rounds.full_round.Goals as goal
 
 pub returns : goal.returns

@@ -1,6 +1,5 @@
 -- Column by column (`ColumnLaws`). Assumes nothing.
 use Rattle.columns.proofs.ColumnLaws.{last_rounded}
-use borrow.Author.Rules.{rules}
 use Rattle.columns.proofs.rounds.last_round.Goals as goal
 
 pub returns : goal.returns

@@ -1,7 +1,6 @@
 -- Byte by byte (`ColumnLaws`). Assumes nothing.
 use Rattle.bits.specs.Xor.{xor}
 use Rattle.columns.proofs.ColumnLaws.{last-column}
-use borrow.Author.Rules.{rules}
 use Rattle.columns.proofs.rounds.last_word.Goals as goal
 
 pub returns : goal.returns

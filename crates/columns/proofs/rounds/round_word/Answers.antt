@@ -1,7 +1,6 @@
 -- The entries add up byte by byte (`ColumnLaws`). Assumes nothing.
 use Rattle.bits.specs.Xor.{xor}
 use Rattle.columns.proofs.ColumnLaws.{round-column}
-use borrow.Author.Rules.{rules}
 use Rattle.columns.proofs.rounds.round_word.Goals as goal
 
 pub returns : goal.returns

@@ -1,6 +1,5 @@
 -- Byte by byte (`ByteLaws`). Assumes nothing.
 use Rattle.columns.proofs.ByteLaws.{turned-one}
-use borrow.Author.Rules.{rules}
 use Rattle.columns.proofs.words.turn_one.Goals as goal
 
 pub returns : goal.returns

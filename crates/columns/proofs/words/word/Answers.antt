@@ -1,6 +1,5 @@
 -- A word of four bytes has these bytes (`ByteLaws`). Assumes nothing.
 use Rattle.columns.proofs.ByteLaws.{bytes_joined}
-use borrow.Author.Rules.{rules}
 use Rattle.columns.proofs.words.word.Goals as goal
 
 pub returns : goal.returns

@@ -1,12 +1,8 @@
 -- `digits::hex::all_digits` meets its contract. The loop's invariant: all bytes are digits exactly where those from i
 -- on are. Assumes nothing.
-use mathlib.Core.Path.{◌≡◌, refl, sym, ◌∙◌}
-use Prim.Native.Nat.{◌≤◌, ◌-◌}
+use mathlib.Core.Path.{sym, ◌∙◌}
 use native.Mathlib.Omega.{arith}
-use borrow.Author.Tests.{not-true, not-false}
-use borrow.Author.Rules.{rules}
-use lib.ListN.{length, drop}
-use Rattle.digits.specs.Texts.{all, is_hex}
+use Rattle.digits.specs.Texts.{is_hex}
 use Rattle.digits.proofs.ScanLaws.{all_here, all-on, all_end}
 use Rattle.digits.proofs.hex.all_digits.Goals as goal
 

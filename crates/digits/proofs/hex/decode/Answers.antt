@@ -1,13 +1,12 @@
 -- `digits::hex::decode` meets its contract. The loop's invariant: i bytes are written, and the rest of the output is as
 -- it was. Assumes nothing.
-use mathlib.Core.Path.{sym, ◌≡◌, refl, ◌∙◌}
-use Prim.Native.Nat.{◌/◌, ◌≤◌, ◌-◌}
+use mathlib.Core.Path.{sym, ◌≡◌, ◌∙◌}
+use Prim.Native.Nat.{◌/◌}
 use native.Mathlib.Omega.{arith}
 use borrow.Author.Tests.{le-leb, lt-leb}
-use borrow.Author.Rules.{rules}
 use lib.ListN.{length-set, length}
 use lib.Seq.{take_all}
-use Rattle.bits.proofs.Fills.{filled_next, filled}
+use Rattle.bits.proofs.Fills.{filled_next}
 use Rattle.digits.specs.Texts.{hex_bytes, decoded_into}
 use Rattle.digits.proofs.DigitLaws.{length-hex_bytes, get_or-hex_bytes}
 use Rattle.digits.proofs.hex.decode.Goals as goal

@@ -1,7 +1,6 @@
 -- `digits::hex::digit` meets its contract: the test says which range the digit comes from. Assumes nothing.
 use native.Mathlib.Omega.{arith}
 use borrow.Author.Tests.{le-leb, lt-leb}
-use borrow.Author.Rules.{rules}
 use Rattle.digits.specs.Texts.{digit}
 use Rattle.digits.proofs.hex.digit.Goals as goal
 

@@ -1,14 +1,10 @@
 -- `digits::hex::encode` meets its contract. The loop's invariant: the digits of i bytes are written, and no other byte
 -- is changed. Assumes nothing.
-use mathlib.Core.Path.{◌≡◌, refl, sym, ◌∙◌}
-use Prim.Native.Nat.{◌+◌, ◌*◌, ◌≤◌, ◌-◌}
-use native.Mathlib.Omega.{arith}
-use borrow.Author.Tests.{le-leb, lt-leb}
-use borrow.Author.Rules.{rules}
-use lib.Seq.{paste-zero, paste}
-use lib.ListN.{length, length-set}
-use Rattle.digits.specs.Texts.{hex_text, encoded_into}
-use Rattle.digits.proofs.DigitLaws.{length-hex_text, high_digit, low_digit, pasted_pair}
+use mathlib.Core.Path.{◌≡◌}
+use Prim.Native.Nat.{◌*◌, ◌≤◌, ◌-◌}
+use lib.Seq.{paste}
+use lib.ListN.{length}
+use Rattle.digits.specs.Texts.{hex_text}
 use Rattle.digits.proofs.hex.encode.Given as goal
 
 abbrev pub invariant-loop-i : goal.invariant-loop-i

@@ -1,6 +1,5 @@
 -- `digits::hex::is_digit` meets its contract: a digit is in one of the two ranges. Assumes nothing.
 use mathlib.Core.Path.{refl, sym, ◌∙◌}
-use borrow.Author.Rules.{rules}
 use Rattle.digits.specs.Texts.{is_hex}
 use Rattle.digits.proofs.hex.is_digit.Goals as goal
 

@@ -1,7 +1,6 @@
 -- `digits::hex::pair` meets its contract: a digit's value is less than 16, so two of them fit a byte. Assumes nothing.
 use Prim.Native.Nat.{◌+◌}
 use native.Mathlib.Omega.{arith}
-use borrow.Author.Rules.{rules}
 use lib.ListN.{get_or}
 use Rattle.digits.proofs.RangeLaws.{value_below}
 use Rattle.digits.proofs.hex.pair.Goals as goal

@@ -2,7 +2,6 @@
 -- nothing.
 use mathlib.Core.Bool.{true, false}
 use mathlib.Core.Path.{◌≡◌, refl, sym, ◌∙◌}
-use borrow.Author.Rules.{rules}
 use Rattle.digits.specs.Texts.{between, value}
 use Rattle.digits.proofs.RangeLaws.{between-low}
 use Rattle.digits.proofs.hex.value.Goals as goal

@@ -1,12 +1,6 @@
 -- `digits::scan::up_to` meets its contract. The loop's invariant: the i bytes passed stand before the first `stop`.
 -- Assumes nothing.
-use mathlib.Core.Path.{◌≡◌, sym}
-use Prim.Native.Nat.{◌+◌, ◌-◌, ◌≤◌}
-use native.Mathlib.Nat.{zero-add}
 use native.Mathlib.Omega.{arith}
-use borrow.Author.Rules.{rules}
-use lib.ListN.{length, drop}
-use Rattle.digits.specs.Texts.{up_to}
 use Rattle.digits.proofs.ScanLaws.{upTo-here, upTo-on, upTo-end}
 use Rattle.digits.proofs.scan.up_to.Goals as goal
 

@@ -1,7 +1,7 @@
 -- The invariant: what is added already, and what is left to add, are the product. The measure is the digits left.
 -- Assumes nothing.
-use Prim.Native.Nat.{◌<◌, ◌*◌, ◌%◌, ◌/◌, ◌-◌}
-use mathlib.Core.Path.{◌≡◌, ◌∙◌, sym, ap}
+use Prim.Native.Nat.{◌*◌, ◌%◌, ◌/◌, ◌-◌}
+use mathlib.Core.Path.{◌∙◌, sym, ap}
 use native.Mathlib.Omega.{arith}
 use borrow.Author.Rules.{rules}
 use Rattle.bits.specs.Xor.{xor}

@@ -1,13 +1,9 @@
 -- The invariant: what is added already, and what is left to add, are the product. The measure is the digits left.
 -- Assumes nothing.
-use Prim.Native.Nat.{◌<◌, ◌*◌, ◌%◌, ◌/◌, ◌-◌}
-use mathlib.Core.Path.{◌≡◌, ◌∙◌, sym, ap}
-use native.Mathlib.Omega.{arith}
-use borrow.Author.Rules.{rules}
+use Prim.Native.Nat.{◌<◌}
+use mathlib.Core.Path.{◌≡◌}
 use Rattle.bits.specs.Xor.{xor}
-use Rattle.bits.proofs.Xor as Xor
 use Rattle.field.specs.Field as Field
-use Rattle.field.proofs.FieldLaws.{shift_add_step, shift_add_none, digit_byte, double_byte}
 use Rattle.field.proofs.arithmetic.product.Given as goal
 
 abbrev pub invariant-loop-left : goal.invariant-loop-left

@@ -2,7 +2,6 @@
 use mathlib.Core.Path.{◌∙◌}
 use lib.ListN.{get_or}
 use Rattle.field.proofs.RowLaws.{join_four}
-use borrow.Author.Rules.{rules}
 use Rattle.field.proofs.rows.join_row.Goals as goal
 
 pub returns : goal.returns

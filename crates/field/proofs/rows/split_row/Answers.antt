@@ -1,7 +1,6 @@
 -- The four bytes, highest first, are the number's digits (`RowLaws`). Assumes nothing.
 use mathlib.Core.Path.{sym}
 use Rattle.field.proofs.RowLaws.{split_four}
-use borrow.Author.Rules.{rules}
 use Rattle.field.proofs.rows.split_row.Goals as goal
 
 pub returns : goal.returns

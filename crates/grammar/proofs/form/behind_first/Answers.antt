@@ -2,7 +2,6 @@
 -- each `return` is where one of them fails. Assumes nothing.
 use mathlib.Core.Path.{refl}
 use native.Mathlib.Omega.{arith}
-use borrow.Author.Rules.{rules}
 use Rattle.grammar.specs.Grammar.{behind_first}
 use Rattle.grammar.proofs.LineLaws.{nothing, something, line_read, line-fits, line-places, line-bad}
 use Rattle.grammar.proofs.form.behind_first.Goals as goal

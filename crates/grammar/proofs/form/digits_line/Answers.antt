@@ -3,9 +3,6 @@
 use mathlib.Core.Path.{refl, sym, ◌∙◌}
 use native.Mathlib.Nat.{le_of_lt}
 use native.Mathlib.Numerals.{add-one}
-use borrow.Author.Tests.{not-true, not-false}
-use borrow.Author.Rules.{rules}
-use lib.Seq.{length-take-le}
 use Rattle.digits.proofs.CutLaws.{part_rest}
 use Rattle.grammar.proofs.LineLaws.{found, no_line, hexLine-is, rest_inside, fit_front}
 use Rattle.grammar.proofs.form.digits_line.Goals as goal

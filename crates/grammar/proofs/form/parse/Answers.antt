@@ -1,9 +1,5 @@
 -- `grammar::form::parse` meets its contract: the first line, and then what follows it. Assumes nothing.
-use mathlib.Core.Path.{sym, ap, ◌∙◌}
-use native.Mathlib.Nat.{le_of_lt}
-use borrow.Author.Rules.{rules}
-use lib.Seq.{length-take-le}
-use Rattle.header.specs.Answers.{first_in}
+use mathlib.Core.Path.{sym}
 use Rattle.grammar.specs.Grammar.{request}
 use Rattle.digits.proofs.CutLaws.{cut-none, cut-some}
 use Rattle.grammar.proofs.form.parse.Goals as goal

@@ -1,6 +1,5 @@
 -- `grammar::reading::good` meets its contract: the first line has a form of its own, and the others are digits. Assumes
 -- nothing.
-use borrow.Author.Rules.{rules}
 use Rattle.grammar.specs.Reading.{text_lines}
 use Rattle.grammar.proofs.ReadingLaws.{good_hex}
 use Rattle.grammar.proofs.reading.good.Goals as goal

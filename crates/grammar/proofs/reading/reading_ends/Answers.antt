@@ -1,16 +1,13 @@
 -- `grammar::reading::reading_ends` meets its contract. The loop's invariant: `line` lines are complete and of their
 -- form, and reading has ended exactly where it has ended in the lines that are due from `start` on. Assumes nothing.
-use mathlib.Core.Path.{◌≡◌, refl, sym, ◌∙◌}
-use Prim.Native.Nat.{◌+◌, ◌-◌, ◌≤◌, ◌<◌}
-use native.Mathlib.Nat.{le_of_lt}
+use mathlib.Core.Path.{refl, sym, ◌∙◌}
+use Prim.Native.Nat.{◌+◌, ◌<◌}
 use native.Mathlib.Omega.{arith}
-use borrow.Author.Tests.{not-true, not-false}
 use borrow.Author.Rules.{rules}
 use lib.ListN.{length}
-use lib.Seq.{length-take-le}
 use Rattle.grammar.specs.Reading.{reading_ends}
 use Rattle.grammar.proofs.LineLaws.{rest_inside}
-use Rattle.grammar.proofs.ReadingLaws.{ends_from, open-line, complete-line, all_read}
+use Rattle.grammar.proofs.ReadingLaws.{open-line, complete-line, all_read}
 use Rattle.grammar.proofs.reading.reading_ends.Goals as goal
 
 -- a line that is complete ends before the front does

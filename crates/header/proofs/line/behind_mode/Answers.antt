@@ -1,10 +1,6 @@
 -- `header::line::behind_mode` meets its contract: each `return` is a step of the definition that gives nothing, or all
 -- of them. Assumes nothing.
-use mathlib.Core.Path.{sym, ap, ◌∙◌}
-use native.Mathlib.Nat.{le_of_lt}
-use borrow.Author.Rules.{rules}
-use lib.Seq.{length-take-le}
-use Rattle.header.specs.Answers.{number_in, direction_in}
+use mathlib.Core.Path.{sym}
 use Rattle.header.specs.Header.{behind_mode}
 use Rattle.digits.proofs.CutLaws.{part_rest, cut-none, cut-some}
 use Rattle.header.proofs.line.behind_mode.Goals as goal

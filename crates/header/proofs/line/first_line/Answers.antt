@@ -1,10 +1,6 @@
 -- `header::line::first_line` meets its contract: each `return` is a step of the definition that gives nothing, or what
 -- stands after the mode. Assumes nothing.
-use mathlib.Core.Path.{sym, ap, ◌∙◌}
-use native.Mathlib.Nat.{le_of_lt}
-use borrow.Author.Rules.{rules}
-use lib.Seq.{length-take-le}
-use Rattle.header.specs.Answers.{mode_in}
+use mathlib.Core.Path.{sym}
 use Rattle.header.specs.Header.{first_of}
 use Rattle.digits.proofs.CutLaws.{part_rest, cut-none, cut-some}
 use Rattle.header.proofs.line.first_line.Goals as goal

@@ -1,7 +1,6 @@
 -- `header::words::direction_word` meets its contract: a word of one letter is compared by that letter. Assumes nothing.
 use mathlib.Core.List.{[], ◌∷◌}
 use borrow.Author.Tests.{eq-eqb, ne_eqb}
-use borrow.Author.Rules.{rules}
 use Rattle.header.specs.Header.{direction_of}
 use Rattle.header.proofs.WordLaws.{same-other, same_one}
 use Rattle.header.proofs.words.direction_word.Goals as goal

@@ -1,7 +1,6 @@
 -- `header::words::mode_word` meets its contract: the names that were asked before a `return` are those that the
 -- definition asks before it. Assumes nothing.
 use mathlib.Core.Path.{sym, ◌∙◌}
-use borrow.Author.Rules.{rules}
 use Rattle.header.specs.Header.{mode_of}
 use Rattle.header.proofs.words.mode_word.Goals as goal
 

@@ -2,17 +2,15 @@
 -- on from there. Assumes nothing.
 use mathlib.Core.Bool.{true}
 use mathlib.Core.Path.{◌≡◌, refl, sym, ◌∙◌}
-use Prim.Native.Nat.{◌^◌, ◌≤◌, ◌<◌, ◌-◌}
 use native.Mathlib.Numerals.{add-one}
 use native.Mathlib.Omega.{arith}
-use borrow.Author.Tests.{le-leb, lt-leb, not-true, not-false}
-use borrow.Author.Rules.{rules}
-use lib.ListN.{get_or, length, drop}
-use Rattle.digits.specs.Texts.{between, all, is_decimal, count_on}
+use borrow.Author.Tests.{le-leb, lt-leb}
+use lib.ListN.{get_or, length}
+use Rattle.digits.specs.Texts.{between, is_decimal}
 use Rattle.header.specs.Header.{length_of}
 use Rattle.header.proofs.WordLaws.{decimal_value}
 use Rattle.digits.proofs.RangeLaws.{between-low, between-high}
-use Rattle.digits.proofs.ScanLaws.{all_here, all-on, all_end, count-on, count-end, decimal_here, decimal_on, three_digits}
+use Rattle.digits.proofs.ScanLaws.{all_here, all-on, all_end, count-on, count-end, decimal_here, decimal_on}
 use Rattle.header.proofs.words.number.Goals as goal
 
 -- the byte in a turn that goes on is a digit

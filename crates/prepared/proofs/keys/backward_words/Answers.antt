@@ -1,7 +1,6 @@
 -- By cases on the rounds (`KeyLaws`). Assumes nothing.
 use mathlib.Core.Path.{sym, ◌∙◌}
 use Rattle.prepared.proofs.KeyLaws.{scheduled-backward, scheduled-refused}
-use borrow.Author.Rules.{rules}
 use Rattle.prepared.proofs.keys.backward_words.Goals as goal
 
 pub returns-then-rounds_ok : goal.returns-then-rounds_ok

@@ -1,6 +1,5 @@
 -- By the direction (`KeyLaws`). Assumes nothing.
-use Rattle.prepared.proofs.KeyLaws.{filled-backward, filled-forward}
-use borrow.Author.Rules.{rules}
+use Rattle.prepared.proofs.KeyLaws.{filled-forward}
 use Rattle.prepared.proofs.keys.fill_words.Goals as goal
 
 pub returns : goal.returns

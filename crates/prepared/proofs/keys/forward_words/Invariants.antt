@@ -1,12 +1,9 @@
 -- The invariant: the words so far stand after the tables, which are as they were (`FillLaws`). Assumes nothing.
-use mathlib.Core.Path.{◌≡◌, sym, ◌∙◌}
+use mathlib.Core.Path.{◌≡◌}
 use Prim.Native.Nat.{◌-◌, ◌≤◌}
-use native.Mathlib.Omega.{arith}
-use lib.ListN.{length, length-set}
-use borrow.Author.Rules.{rules}
+use lib.ListN.{length}
 use Rattle.field.specs.Rows.{word_at}
 use Rattle.prepared.specs.Inner.Parts.{Filled}
-use Rattle.prepared.proofs.FillLaws.{filled_none, filled_next, filled-all}
 use Rattle.prepared.proofs.keys.forward_words.Given as goal
 
 abbrev pub invariant-loop-i : goal.invariant-loop-i

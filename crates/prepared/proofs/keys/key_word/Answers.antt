@@ -1,6 +1,5 @@
 -- The key's bytes stand one after the other (`KeyLaws`). Assumes nothing.
 use Rattle.prepared.proofs.KeyLaws.{key-placed}
-use borrow.Author.Rules.{rules}
 use Rattle.prepared.proofs.keys.key_word.Goals as goal
 
 pub returns : goal.returns

@@ -1,12 +1,11 @@
 -- The invariant: the words so far are in the order of decryption, and the others are zero (`FillLaws`). Assumes
 -- nothing.
-use mathlib.Core.Path.{◌≡◌, refl}
-use Prim.Native.Nat.{◌+◌, ◌-◌, ◌*◌, ◌≤◌}
+use mathlib.Core.Path.{refl}
 use native.Mathlib.Omega.{arith}
-use lib.ListN.{length, length-set}
+use lib.ListN.{length-set}
 use Rattle.cipher.proofs.RoundLaws.{rounds_bounds}
-use Rattle.prepared.specs.Inner.Parts.{Holds, reversed_rule, zero_from}
-use Rattle.prepared.proofs.FillLaws.{zero_bytes, zero-next, zero_all}
+use Rattle.prepared.specs.Inner.Parts.{reversed_rule}
+use Rattle.prepared.proofs.FillLaws.{zero_bytes, zero-next}
 use Rattle.prepared.proofs.keys.reversed_words.Goals as goal
 
 pub loop-i-init : goal.loop-i-init

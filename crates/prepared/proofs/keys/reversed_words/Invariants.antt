@@ -1,12 +1,9 @@
 -- The invariant: the words so far are in the order of decryption, and the others are zero (`FillLaws`). Assumes
 -- nothing.
-use mathlib.Core.Path.{◌≡◌, refl}
+use mathlib.Core.Path.{◌≡◌}
 use Prim.Native.Nat.{◌+◌, ◌-◌, ◌*◌, ◌≤◌}
-use native.Mathlib.Omega.{arith}
-use lib.ListN.{length, length-set}
-use Rattle.cipher.proofs.RoundLaws.{rounds_bounds}
+use lib.ListN.{length}
 use Rattle.prepared.specs.Inner.Parts.{Holds, reversed_rule, zero_from}
-use Rattle.prepared.proofs.FillLaws.{zero_bytes, zero-next, zero_all}
 use Rattle.prepared.proofs.keys.reversed_words.Given as goal
 
 abbrev pub invariant-loop-i : goal.invariant-loop-i

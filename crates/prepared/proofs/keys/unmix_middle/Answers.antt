@@ -1,13 +1,9 @@
 -- The invariant: the words of the middle are unmixed as far as the loop is, and the others are as they were
 -- (`FillLaws`). Assumes nothing.
-use mathlib.Core.Path.{◌≡◌}
-use Prim.Native.Nat.{◌-◌, ◌*◌, ◌≤◌}
 use native.Mathlib.Omega.{arith}
-use lib.ListN.{length, length-set}
 use borrow.Author.Rules.{rules}
 use Rattle.cipher.proofs.RoundLaws.{rounds_bounds}
-use Rattle.prepared.specs.Inner.Parts.{Unmixed}
-use Rattle.prepared.proofs.FillLaws.{unmixed_none, unmixed-next, unmixed-all}
+use Rattle.prepared.proofs.FillLaws.{unmixed_none}
 use Rattle.prepared.proofs.keys.unmix_middle.Goals as goal
 
 pub loop-i-init : goal.loop-i-init

@@ -2,12 +2,8 @@
 -- (`FillLaws`). Assumes nothing.
 use mathlib.Core.Path.{◌≡◌}
 use Prim.Native.Nat.{◌-◌, ◌*◌, ◌≤◌}
-use native.Mathlib.Omega.{arith}
-use lib.ListN.{length, length-set}
-use borrow.Author.Rules.{rules}
-use Rattle.cipher.proofs.RoundLaws.{rounds_bounds}
+use lib.ListN.{length}
 use Rattle.prepared.specs.Inner.Parts.{Unmixed}
-use Rattle.prepared.proofs.FillLaws.{unmixed_none, unmixed-next, unmixed-all}
 use Rattle.prepared.proofs.keys.unmix_middle.Given as goal
 
 abbrev pub invariant-loop-i : goal.invariant-loop-i

@@ -1,7 +1,5 @@
 -- Two stores, one after the other (`PartLaws`). Assumes nothing.
-use native.Mathlib.Omega.{arith}
 use Rattle.prepared.proofs.PartLaws.{ends_filled}
-use borrow.Author.Rules.{rules}
 use Rattle.prepared.proofs.preparation.fill_ends.Goals as goal
 
 pub returns : goal.returns

@@ -1,7 +1,6 @@
 -- The parts, one after the other (`PartLaws`), and what they are for (`PreparedLaws`). Assumes nothing.
 use Rattle.prepared.proofs.PartLaws.{all_held}
 use Rattle.prepared.proofs.PreparedLaws.{prepared_by}
-use borrow.Author.Rules.{rules}
 use Rattle.prepared.proofs.preparation.prepare.Goals as goal
 
 pub returns : goal.returns

@@ -1,10 +1,9 @@
 -- By cases on the rounds. Assumes nothing.
-use mathlib.Core.Path.{◌≡◌, refl, sym, ◌∙◌}
+use mathlib.Core.Path.{◌≡◌, sym, ◌∙◌}
 use mathlib.Core.Bool.{true}
 use native.Mathlib.Omega.{arith}
 use Rattle.cipher.specs.Cipher.{rounds_ok}
 use Rattle.cipher.proofs.RoundLaws.{rounds_bounds}
-use borrow.Author.Rules.{rules}
 use Rattle.prepared.proofs.preparation.rounds_word.Goals as goal
 
 ok : (c : goal.Then-rounds_ok) → rounds_ok c.args.rounds ≡ true

@@ -3,7 +3,6 @@ use mathlib.Core.Path.{ap, sym, ◌∙◌}
 use Rattle.bits.specs.Xor.{xor}
 use Rattle.prepared.specs.Inner.Parts.{column_times}
 use Rattle.prepared.proofs.DoublingLaws.{forward_entry, backward_entry}
-use borrow.Author.Rules.{rules}
 use Rattle.prepared.proofs.table.entry.Goals as goal
 
 pub returns-then-decrypting : goal.returns-then-decrypting

@@ -1,6 +1,5 @@
 -- One table after the other (`PartLaws`). Assumes nothing.
 use Rattle.prepared.proofs.PartLaws.{tables_held}
-use borrow.Author.Rules.{rules}
 use Rattle.prepared.proofs.table.fill_both.Goals as goal
 
 pub returns : goal.returns

@@ -1,11 +1,8 @@
 -- The invariant: the bytes so far stand after the table, which is as it was (`FillLaws`). Assumes nothing.
-use mathlib.Core.Path.{◌≡◌, sym, ◌∙◌}
-use Prim.Native.Nat.{◌-◌, ◌≤◌}
 use native.Mathlib.Omega.{arith}
-use lib.ListN.{length, get_or, length-set}
-use borrow.Author.Rules.{rules}
-use Rattle.prepared.specs.Inner.Parts.{Filled, byte_word}
-use Rattle.prepared.proofs.FillLaws.{filled_none, filled_next, filled-all}
+use lib.ListN.{length-set}
+use Rattle.prepared.specs.Inner.Parts.{byte_word}
+use Rattle.prepared.proofs.FillLaws.{filled_next}
 use Rattle.prepared.proofs.table.fill_last.Goals as goal
 
 pub loop-i-preserved : goal.loop-i-preserved

@@ -1,11 +1,8 @@
 -- The invariant of both loops: the entries so far follow their rule (`FillLaws`, `TableLaws`). Assumes nothing.
-use mathlib.Core.Path.{◌≡◌, sym, ◌∙◌}
-use Prim.Native.Nat.{◌-◌, ◌≤◌}
+use Prim.Native.Nat.{◌-◌}
 use native.Mathlib.Omega.{arith}
-use lib.ListN.{length, length-set}
-use borrow.Author.Rules.{rules}
-use Rattle.prepared.specs.Inner.Parts.{Holds, entry_rule}
-use Rattle.prepared.proofs.FillLaws.{held_none, held_next, held_all}
+use lib.ListN.{length-set}
+use Rattle.prepared.proofs.FillLaws.{held_next}
 use Rattle.prepared.proofs.TableLaws.{entry_first, entry-turned}
 use Rattle.prepared.proofs.table.fill_table.Goals as goal
 

@@ -1,12 +1,8 @@
 -- The invariant of both loops: the entries so far follow their rule (`FillLaws`, `TableLaws`). Assumes nothing.
-use mathlib.Core.Path.{◌≡◌, sym, ◌∙◌}
+use mathlib.Core.Path.{◌≡◌}
 use Prim.Native.Nat.{◌-◌, ◌≤◌}
-use native.Mathlib.Omega.{arith}
-use lib.ListN.{length, length-set}
-use borrow.Author.Rules.{rules}
+use lib.ListN.{length}
 use Rattle.prepared.specs.Inner.Parts.{Holds, entry_rule}
-use Rattle.prepared.proofs.FillLaws.{held_none, held_next, held_all}
-use Rattle.prepared.proofs.TableLaws.{entry_first, entry-turned}
 use Rattle.prepared.proofs.table.fill_table.Given as goal
 
 abbrev pub invariant-loop-i : goal.invariant-loop-i

@@ -1,7 +1,6 @@
 -- The turned words, doubled and added, are the rows of the matrix (`DoublingLaws`). Assumes nothing.
 use Rattle.bits.specs.Xor.{xor}
 use Rattle.prepared.proofs.DoublingLaws.{unmixed-word}
-use borrow.Author.Rules.{rules}
 use Rattle.prepared.proofs.words.unmix.Goals as goal
 
 pub returns : goal.returns

@@ -1,10 +1,8 @@
 -- Questions 4 and 5, then the text's list and the units' one after the other. Assumes nothing.
 use mathlib.Core.Path.{◌≡◌, refl, sym, ◌∙◌}
 use mathlib.Core.Bool.{true}
-use borrow.Author.Tests.{not-true, not-false}
 use Rattle.questions.specs.Questions.{ask, session_ok, max_units, feed_questions}
 use Rattle.questions.proofs.ListLaws.{text-no, text-yes}
-use borrow.Author.Rules.{rules}
 use Rattle.questions.proofs.numbers.feed_number.Goals as goal
 
 pub returns-then-not-session_ok : goal.returns-then-not-session_ok

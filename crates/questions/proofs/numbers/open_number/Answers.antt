@@ -1,11 +1,10 @@
 -- The questions in their order: at each return those before it are answered 'yes'. Assumes nothing.
 use mathlib.Core.Path.{◌≡◌, refl, sym, ◌∙◌}
 use mathlib.Core.Bool.{true}
-use borrow.Author.Tests.{not-true, not-false, eq-eqb, ne_eqb}
+use borrow.Author.Tests.{eq-eqb, ne_eqb}
 use Rattle.aes.specs.Calls.{key_ok}
 use Rattle.rules.specs.Lengths.{unit_length_ok}
 use Rattle.questions.specs.Questions.{ask, iv_ok, open_questions}
-use borrow.Author.Rules.{rules}
 use Rattle.questions.proofs.numbers.open_number.Goals as goal
 
 pub returns-then-not-key_ok : goal.returns-then-not-key_ok

@@ -1,11 +1,9 @@
 -- The questions in their order: at each return those before it are answered 'yes'. Assumes nothing.
 use mathlib.Core.Path.{◌≡◌, refl, sym, ap, ◌∙◌}
 use mathlib.Core.Bool.{true}
-use borrow.Author.Tests.{not-true, not-false}
 use Rattle.bits.specs.Texts.{bytes_for}
 use Rattle.rules.specs.Lengths.{whole_units}
 use Rattle.questions.specs.Questions.{ask, bits_ok, room_ok, max_bits}
-use borrow.Author.Rules.{rules}
 use Rattle.questions.proofs.numbers.text_number.Goals as goal
 
 pub returns-then-not-bits_ok : goal.returns-then-not-bits_ok

@@ -8,7 +8,6 @@ use lib.Pow.{pow-lt}
 use borrow.Author.Tests.{le-leb, lt-leb}
 use Rattle.questions.specs.Questions.{ask, units_ok, counters_ok, max_units}
 use Rattle.questions.proofs.QuestionLaws.{counters_enough}
-use borrow.Author.Rules.{rules}
 use Rattle.questions.proofs.numbers.units_number.Goals as goal
 
 pub returns-then-new-left : goal.returns-then-new-left

@@ -1,7 +1,6 @@
 -- `reasons::find::segment_fault` is safe and ends, and there are words for what it finds. Assumes nothing.
 use Prim.Native.Nat.{◌-◌}
 use lib.ListN.{length}
-use borrow.Author.Rules.{rules}
 use Rattle.reasons.proofs.find.segment_fault.Given as goal
 
 abbrev pub invariant-loop-i : goal.invariant-loop-i

@@ -1,6 +1,5 @@
 -- `rules::numbers::decrypts` meets its contract, direction by direction. Assumes nothing.
 use mathlib.Core.Path.{refl}
-use borrow.Author.Rules.{rules}
 use Rattle.rules.specs.Numbers.{is_decrypt}
 use Rattle.rules.proofs.numbers.decrypts.Goals as goal
 

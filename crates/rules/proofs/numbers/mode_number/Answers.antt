@@ -1,6 +1,5 @@
 -- `rules::numbers::mode_number` meets its contract, mode by mode. Assumes nothing.
 use mathlib.Core.Path.{refl}
-use borrow.Author.Rules.{rules}
 use Rattle.rules.specs.Numbers.{mode_number}
 use Rattle.rules.proofs.numbers.mode_number.Goals as goal
 

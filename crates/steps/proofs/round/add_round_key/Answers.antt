@@ -1,7 +1,6 @@
 -- Row by row (`StepLaws`). Assumes nothing.
 use Rattle.steps.specs.State.{at}
 use Rattle.steps.proofs.StepLaws.{add_rows}
-use borrow.Author.Rules.{rules}
 use Rattle.steps.proofs.round.add_round_key.Goals as goal
 
 pub returns : goal.returns

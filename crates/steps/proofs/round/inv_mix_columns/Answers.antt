@@ -4,7 +4,6 @@ use Rattle.steps.specs.State.{at}
 use Rattle.steps.specs.Steps.{mix_columns}
 use Rattle.steps.proofs.StateLaws.{rows}
 use Rattle.steps.proofs.MixRows.{prepared, prepared_at, prepared_rows}
-use borrow.Author.Rules.{rules}
 use Rattle.steps.proofs.round.inv_mix_columns.Goals as goal
 
 pub returns : goal.returns

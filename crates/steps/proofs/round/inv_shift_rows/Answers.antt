@@ -4,7 +4,6 @@ use Rattle.field.specs.Rows.{four}
 use Rattle.steps.specs.State.{at}
 use Rattle.steps.specs.Steps.{inv_shift_rows}
 use Rattle.steps.proofs.StateLaws.{rows}
-use borrow.Author.Rules.{rules}
 use Rattle.steps.proofs.round.inv_shift_rows.Goals as goal
 
 pub returns : goal.returns

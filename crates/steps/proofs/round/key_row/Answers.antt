@@ -2,7 +2,6 @@
 use Rattle.bits.specs.Xor.{xor}
 use native.Mathlib.Nat.{add-zero}
 use Rattle.field.specs.Rows.{four}
-use borrow.Author.Rules.{rules}
 use Rattle.steps.proofs.round.key_row.Goals as goal
 
 pub returns : goal.returns

@@ -3,7 +3,6 @@ use mathlib.Core.Path.{◌∙◌}
 use Rattle.steps.specs.State.{at}
 use Rattle.steps.proofs.StateLaws.{rows}
 use Rattle.steps.proofs.MixRows.{mixed, mixed_at, mixed_rows}
-use borrow.Author.Rules.{rules}
 use Rattle.steps.proofs.round.mix_columns.Goals as goal
 
 pub returns : goal.returns

@@ -5,7 +5,6 @@ use Rattle.bits.specs.Xor.{xor}
 use Rattle.bits.specs.Blocks.{Bytes}
 use Rattle.bits.proofs.Arrays.{array_bytes}
 use Rattle.steps.proofs.MixRows.{mixed, mixed-row}
-use borrow.Author.Rules.{rules}
 use Rattle.steps.proofs.round.mix_row.Goals as goal
 
 pub returns : goal.returns

@@ -2,7 +2,6 @@
 use Rattle.field.specs.Rows.{four}
 use Rattle.steps.specs.State.{at, state}
 use Rattle.steps.specs.Steps.{bytewise}
-use borrow.Author.Rules.{rules}
 use Rattle.steps.proofs.round.sub_bytes.Goals as goal
 
 pub returns : goal.returns

@@ -4,7 +4,6 @@ use Rattle.bits.specs.Xor.{xor}
 use Rattle.bits.specs.Blocks.{Bytes}
 use Rattle.bits.proofs.Arrays.{array_bytes}
 use Rattle.steps.proofs.MixRows.{prepared, prepared-row}
-use borrow.Author.Rules.{rules}
 use Rattle.steps.proofs.round.unmix_row.Goals as goal
 
 pub returns : goal.returns

@@ -2,7 +2,6 @@
 use mathlib.Core.Path.{refl}
 use Rattle.field.specs.Rows.{four}
 use Rattle.steps.specs.State.{state, from_block}
-use borrow.Author.Rules.{rules}
 use Rattle.steps.proofs.state.load.Goals as goal
 
 pub returns : goal.returns
