@@ -4,7 +4,8 @@
 
 ghost use Rattle.std.specs.Prelude.{◌≤◌, ◌<◌};
 
-use libc::STDOUT_FILENO;
+use std::io;
+use std::io::{Stdout, Write};
 
 const FIRST: [u8; 16] = [
     0x2b, 0x7e, 0x15, 0x16, 0x28, 0xae, 0xd2, 0xa6, 0xab, 0xf7, 0x15, 0x88, 0x09, 0xcf, 0x4f, 0x3c,
@@ -16,97 +17,100 @@ const SECOND: [u8; 16] = [
 
 const LENGTHS: [usize; 9] = [0, 1, 3, 7, 8, 9, 127, 128, 200];
 
-fn print_byte(b: u8) {
-    io::print_hex(STDOUT_FILENO, b as u64, 2);
+fn print_byte(mut out: Stdout, b: u8) -> io::Result<()> {
+    write!(out, "{b:02x}")
 }
 
-fn print_bytes(bytes: &[u8]) {
+fn print_bytes(out: Stdout, bytes: &[u8]) -> io::Result<()> {
     let mut i = 0;
     while i < bytes.len() {
-        print_byte(bytes[i]);
+        print_byte(out, bytes[i])?;
         i += 1;
     }
+    Ok(())
 }
 
-fn end_line() {
-    io::write_all(STDOUT_FILENO, b"\n");
+fn end_line(mut out: Stdout) -> io::Result<()> {
+    out.write_all(b"\n")
 }
 
-fn show(bytes: &[u8]) {
-    print_bytes(bytes);
-    end_line();
+fn show(out: Stdout, bytes: &[u8]) -> io::Result<()> {
+    print_bytes(out, bytes)?;
+    end_line(out)
 }
 
-fn show_window(s: &[u8], offset: usize, n: usize) {
-    show(&bits::window(s, offset, n));
+fn show_window(out: Stdout, s: &[u8], offset: usize, n: usize) -> io::Result<()> {
+    show(out, &bits::window(s, offset, n))
 }
 
-fn show_windows(s: &[u8], n: usize) {
+fn show_windows(out: Stdout, s: &[u8], n: usize) -> io::Result<()> {
     let mut offset: usize = 0;
     while offset < 10 {
-        show_window(s, offset, n);
+        show_window(out, s, offset, n)?;
         offset += 1;
     }
-    show_window(s, 18446744073709551615, n);
+    show_window(out, s, 18446744073709551615, n)
 }
 
-fn show_put(at: usize, n: usize)
+fn show_put(out: Stdout, at: usize, n: usize) -> io::Result<()>
     requires { (at < 10) × (n ≤ 128) }
 {
-    let mut out = [255u8; 19];
-    bits::put_bits(&mut out, at, SECOND, n);
-    show(&out);
+    let mut bytes = [255u8; 19];
+    bits::put_bits(&mut bytes, at, SECOND, n);
+    show(out, &bytes)
 }
 
-fn show_puts(n: usize)
+fn show_puts(out: Stdout, n: usize) -> io::Result<()>
     requires { n ≤ 128 }
 {
     let mut at: usize = 0;
     while at < 10 {
-        show_put(at, n);
+        show_put(out, at, n)?;
         at += 1;
     }
+    Ok(())
 }
 
-fn show_length(n: usize) {
-    show_windows(&FIRST, n);
-    show_windows(b"\xa5\x0f", n);
-    show(&bits::shift_in(FIRST, SECOND, n));
-    if n <= 128 {
-        show_puts(n);
-    }
+fn show_length(out: Stdout, n: usize) -> io::Result<()> {
+    show_windows(out, &FIRST, n)?;
+    show_windows(out, b"\xa5\x0f", n)?;
+    show(out, &bits::shift_in(FIRST, SECOND, n))?;
+    if n <= 128 { show_puts(out, n) } else { Ok(()) }
 }
 
-fn show_lengths() {
+fn show_lengths(out: Stdout) -> io::Result<()> {
     let mut k = 0;
     while k < 9 {
-        show_length(LENGTHS[k]);
+        show_length(out, LENGTHS[k])?;
         k += 1;
     }
+    Ok(())
 }
 
 const COUNTERS: [usize; 14] = [0, 1, 3, 7, 8, 9, 16, 64, 119, 120, 121, 127, 128, 200];
 
 // A counter that wraps with any m, one that wraps with m up to 123, and one that wraps with m up to 3.
-fn show_increments(m: usize) {
+fn show_increments(out: Stdout, m: usize) -> io::Result<()> {
     let mut block = [255u8; 16];
-    show(&counter::increment_block(block, m));
+    show(out, &counter::increment_block(block, m))?;
     block[0] = 7;
-    show(&counter::increment_block(block, m));
+    show(out, &counter::increment_block(block, m))?;
     block[15] = 7;
-    show(&counter::increment_block(block, m));
+    show(out, &counter::increment_block(block, m))
 }
 
-fn show_counters() {
+fn show_counters(out: Stdout) -> io::Result<()> {
     let mut k = 0;
     while k < 14 {
-        show_increments(COUNTERS[k]);
+        show_increments(out, COUNTERS[k])?;
         k += 1;
     }
+    Ok(())
 }
 
-fn main() {
-    show_lengths();
-    show(&bits::xor_block(FIRST, SECOND));
-    show_counters();
+fn main(rt: HostRuntime) -> io::Result<()> {
+    let out = rt.stdout();
+    show_lengths(out)?;
+    show(out, &bits::xor_block(FIRST, SECOND))?;
+    show_counters(out)
 }

@@ -4,38 +4,37 @@
 
 mod words;
 
-ghost use Rattle.std.specs.Prelude.{◌+◌, ◌≤◌, length};
-ghost use Rattle.io.specs.Counts.{IsPrefixLen};
+ghost use Rattle.std.specs.Prelude.{◌+◌, ◌≤◌, length, IfOk};
+ghost use Rattle.std.specs.Io.{ReadsAtMost};
 
-use libc::{STDIN_FILENO, STDOUT_FILENO};
 use lines::{MAX_INPUT, MAX_OUTPUT};
+use std::io;
+use std::io::{Read, Stderr, Stdin, Stdout, Write};
 
 // One read, after the `done` bytes that are there: how many it gave, 0 at the input's end.
-fn read_on(input: &mut [u8], done: usize) -> usize
+fn read_on(mut from: Stdin, input: &mut [u8], done: usize) -> io::Result<usize>
     requires { done ≤ length input.old }
-    ensures { done + result ≤ length input.new }
+    ensures { IfOk result (λ n. done + n ≤ length input.new) }
 {
-    let rest = &mut input[done..];
-    let got = libc::read(STDIN_FILENO, rest);
-    io::count(got, rest)
+    from.read(&mut input[done..])
 }
 
 // Reads until the bytes that are there decide the answer (`EndDecides` of `lines`), the input ends or `input` is full.
-fn read_text(input: &mut [u8]) -> usize
-    ensures { IsPrefixLen result input.new }
+fn read_text(from: Stdin, input: &mut [u8]) -> io::Result<usize>
+    ensures { ReadsAtMost result input.new }
 {
     let mut done = 0;
     while done < input.len() {
-        let more = read_on(input, done);
+        let more = read_on(from, input, done)?;
         if more == 0 {
-            return done;
+            return Ok(done);
         }
         done += more;
         if grammar::reading_ends(&input[..done]) {
-            return done;
+            return Ok(done);
         }
     }
-    done
+    Ok(done)
 }
 
 // The digit of a line that is one digit and a line feed; 0 for any other.
@@ -44,17 +43,17 @@ fn single(line: &[u8]) -> u8 {
 }
 
 // The answer, and why it is a refusal.
-fn print(input: &[u8], line: &[u8]) {
-    io::write_all(STDOUT_FILENO, line);
-    words::say_reason(reasons::reason(input));
-    words::say_number(single(line));
+fn print(mut to: Stdout, errors: Stderr, input: &[u8], line: &[u8]) -> io::Result<()> {
+    to.write_all(line)?;
+    words::say_reason(errors, reasons::reason(input))?;
+    words::say_number(errors, single(line))
 }
 
-fn main() {
+fn main(rt: HostRuntime) -> io::Result<()> {
     // A byte more than the longest text of the form: these bytes decide the answer (`FrontDecides` of `lines`).
     let mut input = [0u8; MAX_INPUT + 1];
-    let n = read_text(&mut input);
+    let n = read_text(rt.stdin(), &mut input)?;
     let mut out = [0u8; MAX_OUTPUT];
     let r = lines::answer(&input[..n], &mut out);
-    print(&input[..n], &out[..r]);
+    print(rt.stdout(), rt.stderr(), &input[..n], &out[..r])
 }

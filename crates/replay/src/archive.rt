@@ -1,15 +1,22 @@
 // One block of a CBC archive.
 use crate::state::State;
 use script::{Words, bytes, print};
+use std::io;
 
 // neighbour IV TEXT J
-pub fn neighbour(words: Words, space: &[u8], text: &mut [u8; 65536], state: State) -> State {
+pub fn neighbour(
+    words: Words,
+    space: &[u8],
+    text: &mut [u8; 65536],
+    state: State,
+) -> io::Result<State> {
     let part = inspect::neighbour(
         bytes(space, words, 1),
         bytes(space, words, 2),
         words.number(3),
     );
-    state.with_end(print::bytes(text, state.end, part, b'\n'))
+    let end = print::bytes(state.to, text, state.end, part, b'\n')?;
+    Ok(state.with_end(end))
 }
 
 // block KEY IV TEXT J OUTLEN PLACE FILL
@@ -19,7 +26,7 @@ pub fn block(
     out: &mut [u8],
     text: &mut [u8; 65536],
     state: State,
-) -> State {
+) -> io::Result<State> {
     let number = inspect::decrypt_block(
         bytes(space, words, 1),
         bytes(space, words, 2),
@@ -28,6 +35,7 @@ pub fn block(
         out,
         words.number(6),
     );
-    let at = print::number(text, state.end, number as u64, b' ');
-    state.with_end(print::bytes(text, at, out, b'\n'))
+    let mut at = print::number(state.to, text, state.end, number as u64, b' ')?;
+    at = print::bytes(state.to, text, at, out, b'\n')?;
+    Ok(state.with_end(at))
 }

@@ -2,6 +2,7 @@
 use crate::state::State;
 use crate::{archive, blocks, comparison, counters, feeds, sessions, texts};
 use script::{Words, output, read};
+use std::io;
 
 // `run_command` has them in this order.
 fn read_command(line: &[u8], space: &mut [u8]) -> Words {
@@ -36,7 +37,7 @@ fn run_command(
     out: &mut [u8],
     text: &mut [u8; 65536],
     state: State,
-) -> State {
+) -> io::Result<State> {
     let command = words.command;
     match command {
         0 => sessions::open(words, space, text, state),
@@ -69,7 +70,7 @@ pub fn run(
     out: &mut [u8],
     text: &mut [u8; 65536],
     state: State,
-) -> State {
+) -> io::Result<State> {
     let words = read_command(line, space);
     if words.good {
         run_command(words, space, output(out, words), text, state)

@@ -40,9 +40,10 @@ mod sessions;
 mod state;
 mod texts;
 
-use libc::STDIN_FILENO;
 use script::{MAX_BYTES, MAX_LINE, first};
 use state::State;
+use std::io;
+use std::io::{Read, Stdin};
 
 // Adds a byte to the line. A full line is too long, and stays full.
 fn push(line: &mut [u8], len: usize, b: u8) -> usize {
@@ -71,11 +72,11 @@ fn end_line(
     out: &mut [u8],
     text: &mut [u8; 65536],
     state: State,
-) -> State {
+) -> io::Result<State> {
     let len = state.len;
     let next = state.next_line();
     if passed_over(line, len) {
-        return next;
+        return Ok(next);
     }
     if len < line.len() {
         commands::run(first(line, len), space, out, text, next)
@@ -92,7 +93,7 @@ fn run_lines(
     out: &mut [u8],
     text: &mut [u8; 65536],
     state: State,
-) -> State {
+) -> io::Result<State> {
     let mut now = state;
     let mut i = 0;
     while i < part.len() {
@@ -102,32 +103,38 @@ fn run_lines(
             now.len = push(line, now.len, b);
             continue;
         }
-        let next = end_line(line, space, out, text, now);
+        let next = end_line(line, space, out, text, now)?;
         now = next;
     }
-    now
+    Ok(now)
 }
 
 // Runs the part's lines, with room for the bytes of the longest line and for the longest output, and writes the
 // answers.
-fn run_part(part: &[u8], line: &mut [u8], text: &mut [u8; 65536], state: State) -> State {
+fn run_part(
+    part: &[u8],
+    line: &mut [u8],
+    text: &mut [u8; 65536],
+    state: State,
+) -> io::Result<State> {
     let mut space = [0u8; MAX_LINE / 2];
     let mut out = [0u8; MAX_BYTES];
-    run_lines(part, line, &mut space, &mut out, text, state).flushed(text)
+    let next = run_lines(part, line, &mut space, &mut out, text, state)?;
+    next.flushed(text)
 }
 
 // What follows the last line feed, run as if one ended it.
-fn run_last(line: &mut [u8], text: &mut [u8; 65536], state: State) -> State {
+fn run_last(line: &mut [u8], text: &mut [u8; 65536], state: State) -> io::Result<State> {
     if state.len == 0 {
-        return state.stopped();
+        return Ok(state.stopped());
     }
-    run_part(b"\n", line, text, state).stopped()
+    let next = run_part(b"\n", line, text, state)?;
+    Ok(next.stopped())
 }
 
 // Reads once, and answers how many bytes came: 0 where the input has ended.
-fn read_part(part: &mut [u8]) -> usize {
-    let got = libc::read(STDIN_FILENO, part);
-    io::count(got, part)
+fn read_part(mut from: Stdin, part: &mut [u8]) -> io::Result<usize> {
+    from.read(part)
 }
 
 // Runs the first `count` bytes of the part. With none, the input has ended.
@@ -137,33 +144,39 @@ fn run_first(
     line: &mut [u8],
     text: &mut [u8; 65536],
     state: State,
-) -> State {
+) -> io::Result<State> {
     if count == 0 {
         return run_last(line, text, state);
     }
     run_part(first(part, count), line, text, state)
 }
 
-// A proved loop has to end, and nothing says that the input does. So the loop counts its turns down, from a number that
-// no run uses up.
-fn run_all(part: &mut [u8], line: &mut [u8], text: &mut [u8; 65536]) {
-    let mut state = State::new();
-    let mut turns = u64::MAX;
-    while turns > 0 {
-        turns -= 1;
-        let count = read_part(part);
-        let next = run_first(part, count, line, text, state);
+// A proved loop has to end, and nothing says that the input does. So the loop counts its turns, up to a number that no
+// run uses up.
+fn run_all(
+    from: Stdin,
+    start: State,
+    part: &mut [u8],
+    line: &mut [u8],
+    text: &mut [u8; 65536],
+) -> io::Result<()> {
+    let mut state = start;
+    for _ in 0..u64::MAX {
+        let count = read_part(from, part)?;
+        let next = run_first(part, count, line, text, state)?;
         if next.stop {
-            return;
+            return Ok(());
         }
         state = next;
     }
+    Ok(())
 }
 
-fn main() {
+fn main(rt: HostRuntime) -> io::Result<()> {
     let mut part = [0u8; 65536];
     // A byte more than the longest line.
     let mut line = [0u8; MAX_LINE + 1];
     let mut text = [0u8; 65536];
-    run_all(&mut part, &mut line, &mut text);
+    let start = State::new(rt.stdout(), rt.stderr());
+    run_all(rt.stdin(), start, &mut part, &mut line, &mut text)
 }

@@ -1,13 +1,17 @@
 // What stays from line to line.
-use libc::STDERR_FILENO;
 use modes::Session;
 use rules::{Direction, Mode};
 use script::print;
+use std::io;
+use std::io::{Stderr, Stdout, Write};
 
 // `kept` is the session that `alike` compares with. `len` bytes of the present line are gathered, and `end` bytes of
-// output wait to be written. `ended` lines have ended. `stop` says that the input has.
+// output wait to be written to `to`; `errors` takes the numbers of bad lines. `ended` lines have ended. `stop` says that
+// the input has.
 #[derive(Drop)]
 pub struct State {
+    pub to: Stdout,
+    pub errors: Stderr,
     pub session: Session,
     pub kept: Session,
     pub len: usize,
@@ -18,10 +22,12 @@ pub struct State {
 
 impl State {
     // Both sessions are a refused opening's.
-    pub fn new() -> State {
+    pub fn new(to: Stdout, errors: Stderr) -> State {
         let opened = Session::open(Mode::Ecb, Direction::Encrypt, 128, b"", b"");
         let session = opened.session;
         State {
+            to,
+            errors,
             session,
             kept: session,
             len: 0,
@@ -56,16 +62,17 @@ impl State {
     }
 
     // The answer to a line that is of no command's form, which is named on standard error.
-    pub fn bad(self, text: &mut [u8; 65536]) -> State {
-        io::write_all(STDERR_FILENO, b"replay: line ");
-        io::print_decimal(STDERR_FILENO, self.ended);
-        io::write_all(STDERR_FILENO, b": of no command's form\n");
-        self.with_end(print::bad(text, self.end))
+    pub fn bad(self, text: &mut [u8; 65536]) -> io::Result<State> {
+        let mut errors = self.errors;
+        let ended = self.ended;
+        writeln!(errors, "replay: line {ended}: of no command's form")?;
+        let end = print::bad(self.to, text, self.end)?;
+        Ok(self.with_end(end))
     }
 
-    pub fn flushed(mut self, text: &[u8; 65536]) -> State {
-        self.end = print::flush(text, self.end);
-        self
+    pub fn flushed(self, text: &[u8; 65536]) -> io::Result<State> {
+        let end = print::flush(self.to, text, self.end)?;
+        Ok(self.with_end(end))
     }
 
     pub fn stopped(mut self) -> State {

@@ -2,6 +2,7 @@
 use crate::state::State;
 use rules::Direction;
 use script::{Words, bytes, print};
+use std::io;
 
 // pad BITS OUTLEN PLACE FILL INPUT
 pub fn pad(
@@ -10,23 +11,30 @@ pub fn pad(
     out: &mut [u8],
     text: &mut [u8; 65536],
     state: State,
-) -> State {
+) -> io::Result<State> {
     let padded = padding::pad(
         bytes(space, words, 5),
         words.number(1),
         out,
         words.number(3),
     );
-    let mut at = print::number(text, state.end, padded.number as u64, b' ');
-    at = print::number(text, at, padded.bits as u64, b' ');
-    state.with_end(print::bytes(text, at, out, b'\n'))
+    let mut at = print::number(state.to, text, state.end, padded.number as u64, b' ')?;
+    at = print::number(state.to, text, at, padded.bits as u64, b' ')?;
+    at = print::bytes(state.to, text, at, out, b'\n')?;
+    Ok(state.with_end(at))
 }
 
 // unpad BITS INPUT
-pub fn unpad(words: Words, space: &[u8], text: &mut [u8; 65536], state: State) -> State {
+pub fn unpad(
+    words: Words,
+    space: &[u8],
+    text: &mut [u8; 65536],
+    state: State,
+) -> io::Result<State> {
     let unpadded = padding::unpad(bytes(space, words, 2), words.number(1));
-    let at = print::number(text, state.end, unpadded.number as u64, b' ');
-    state.with_end(print::number(text, at, unpadded.bits as u64, b'\n'))
+    let mut at = print::number(state.to, text, state.end, unpadded.number as u64, b' ')?;
+    at = print::number(state.to, text, at, unpadded.bits as u64, b'\n')?;
+    Ok(state.with_end(at))
 }
 
 fn stolen(words: Words, space: &[u8], out: &mut [u8]) -> u8 {
@@ -48,8 +56,9 @@ pub fn steal(
     out: &mut [u8],
     text: &mut [u8; 65536],
     state: State,
-) -> State {
+) -> io::Result<State> {
     let number = stolen(words, space, out);
-    let at = print::number(text, state.end, number as u64, b' ');
-    state.with_end(print::bytes(text, at, out, b'\n'))
+    let mut at = print::number(state.to, text, state.end, number as u64, b' ')?;
+    at = print::bytes(state.to, text, at, out, b'\n')?;
+    Ok(state.with_end(at))
 }

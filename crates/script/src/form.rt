@@ -12,7 +12,7 @@ use rules::{Direction, Mode};
 // A line's words. The bytes of a word stand in the space that `read` was lent, from `starts` of that word on; the other
 // words are numbers, a mode and a direction too. The first `count` words are read, the name with them, and `used`
 // bytes. `size` and `fill` are the words of kinds o and f.
-#[derive(Drop)]
+#[derive(Clone, Copy)]
 pub struct Words {
     pub good: bool,
     pub command: usize,

@@ -1,5 +1,5 @@
 // Decimal numbers.
-#[derive(Drop)]
+#[derive(Clone, Copy)]
 pub enum Number {
     Value(usize),
     Bad,

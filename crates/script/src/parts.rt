@@ -1,5 +1,5 @@
 // Parts of buffers.
-ghost use Rattle.io.specs.Counts.{IsPrefixLen};
+ghost use Rattle.std.specs.Prelude.{◌≡◌, ◌≤◌, length, take};
 
 // The first `count` bytes, or all where there are fewer.
 pub fn first(bytes: &[u8], count: usize) -> &[u8] {
@@ -24,7 +24,8 @@ pub fn copy(from: &[u8], to: &mut [u8]) {
 
 // Sets the first `count` bytes, or all where there are fewer, and answers how many it set.
 pub fn fill(out: &mut [u8], count: usize, value: u8) -> usize
-    ensures { IsPrefixLen result out.new }
+    ensures within { result ≤ length out.new }
+    ensures whole { result ≡ length (take result out.new) }
 {
     let mut i = 0;
     while i < count {

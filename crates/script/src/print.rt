@@ -1,73 +1,98 @@
-// Output is gathered in a text of 65,536 bytes, of which the first `end` wait to be written. Each function gives the
-// next `end`.
+// Output is gathered in a text of 65,536 bytes, of which the first `end` wait to be written to `to`. Each function gives
+// the next `end`, or the error of a write that failed.
 use crate::parts::first;
-use libc::STDOUT_FILENO;
+use itoa::Buffer;
+use std::io;
+use std::io::{Stdout, Write};
 
 // A full text is written first.
-fn put(text: &mut [u8; 65536], end: usize, b: u8) -> usize {
+fn put(to: Stdout, text: &mut [u8; 65536], end: usize, b: u8) -> io::Result<usize> {
     if end < 65536 {
         text[end] = b;
-        return end + 1;
+        return Ok(end + 1);
     }
-    io::write_all(STDOUT_FILENO, text);
+    write_first(to, text, 65536)?;
     text[0] = b;
-    1
+    Ok(1)
 }
 
-fn write_first(text: &[u8], count: usize) {
-    io::write_all(STDOUT_FILENO, first(text, count));
+fn write_first(mut to: Stdout, text: &[u8], count: usize) -> io::Result<()> {
+    to.write_all(first(text, count))
 }
 
 // Writes what waits.
-pub fn flush(text: &[u8; 65536], end: usize) -> usize {
-    write_first(text, end);
-    0
+pub fn flush(to: Stdout, text: &[u8; 65536], end: usize) -> io::Result<usize> {
+    write_first(to, text, end)?;
+    Ok(0)
 }
 
 // A word, and the byte that separates it from what follows.
-pub fn label(text: &mut [u8; 65536], end: usize, word: &[u8], after: u8) -> usize {
+pub fn label(
+    to: Stdout,
+    text: &mut [u8; 65536],
+    end: usize,
+    word: &[u8],
+    after: u8,
+) -> io::Result<usize> {
     let mut at = end;
     let mut i = 0;
     while i < word.len() {
-        at = put(text, at, word[i]);
+        at = put(to, text, at, word[i])?;
         i += 1;
     }
-    put(text, at, after)
+    put(to, text, at, after)
 }
 
 // In decimal.
-pub fn number(text: &mut [u8; 65536], end: usize, n: u64, after: u8) -> usize {
-    let mut digits = [0u8; 20];
-    let count = io::decimal(n, &mut digits);
-    label(text, end, &digits[..count], after)
+pub fn number(
+    to: Stdout,
+    text: &mut [u8; 65536],
+    end: usize,
+    n: u64,
+    after: u8,
+) -> io::Result<usize> {
+    let mut digits = Buffer::new();
+    label(to, text, end, digits.format(n).as_bytes(), after)
 }
 
-fn put_hex(text: &mut [u8; 65536], end: usize, b: u8) -> usize {
+fn put_hex(to: Stdout, text: &mut [u8; 65536], end: usize, b: u8) -> io::Result<usize> {
     let mut pair = [0u8; 2];
     digits::encode(&[b], &mut pair, 0);
-    let at = put(text, end, pair[0]);
-    put(text, at, pair[1])
+    let at = put(to, text, end, pair[0])?;
+    put(to, text, at, pair[1])
 }
 
 // In hexadecimal, and `-` for no bytes.
-pub fn bytes(text: &mut [u8; 65536], end: usize, b: &[u8], after: u8) -> usize {
+pub fn bytes(
+    to: Stdout,
+    text: &mut [u8; 65536],
+    end: usize,
+    b: &[u8],
+    after: u8,
+) -> io::Result<usize> {
     if b.len() == 0 {
-        return label(text, end, b"-", after);
+        return label(to, text, end, b"-", after);
     }
     let mut at = end;
     let mut i = 0;
     while i < b.len() {
-        at = put_hex(text, at, b[i]);
+        at = put_hex(to, text, at, b[i])?;
         i += 1;
     }
-    put(text, at, after)
+    put(to, text, at, after)
 }
 
-pub fn block(text: &mut [u8; 65536], end: usize, b: [u8; 16], after: u8) -> usize {
-    bytes(text, end, &b, after)
+pub fn block(
+    to: Stdout,
+    text: &mut [u8; 65536],
+    end: usize,
+    b: [u8; 16],
+    after: u8,
+) -> io::Result<usize> {
+    bytes(to, text, end, &b, after)
 }
 
 // The answer to a bad line.
-pub fn bad(text: &mut [u8; 65536], end: usize) -> usize {
-    label(text, end, b"?", b'\n')
+pub fn bad(to: Stdout, text: &mut [u8; 65536], end: usize) -> io::Result<usize> {
+    label(to, text, end, b"?", b'\n')
 }
