@@ -28,7 +28,7 @@ DOCUMENTS = ["docs/PROMISES.md", "docs/RULES.md", "docs/GUIDE.md", "docs/ARCHITE
 PROMISES, GUIDE = DOCUMENTS[0], DOCUMENTS[2]
 HEADER = "include/conguraha.h"
 FOLDERS = ["bindings", "crates", "docs", "examples", "harness", "include", "lists", "packaging"]
-NOT_OURS = {"target", "__pycache__"}
+NOT_OURS = {"target", "out", "__pycache__"}
 
 # Words of a name's form that are none: letters and values of the rules, words of languages, and what others make.
 NO_NAMES = set(
@@ -40,8 +40,9 @@ NO_NAMES = set(
 )
 OPENSSLS = re.compile(r"(?i:aes-?(128|192|256)-[\w-]+)|EVP_\w+")
 
-NAME = re.compile(r"[A-Za-z_][\w′]*(?:-[\w′]+)*")
-DOTTED = re.compile(r"[A-Za-z_]\w*(?:\.[A-Za-z_]\w*)+")
+# With both primes: the one that Rattle no longer has is then found nowhere.
+NAME = re.compile(r"[A-Za-z_][\w'′]*(?:-[\w'′]+)*")
+DOTTED = re.compile(rf"{NAME.pattern}(?:\.{NAME.pattern})+")
 QUALIFIED = re.compile(r"[A-Za-z_]\w*(?:::[A-Za-z_]\w*)+")
 FILE = re.compile(r"[\w*.-]+\.(?:antt|rt|rs|c|h|hpp|cpp|py|md|txt|edit|sh|toml)")
 PATH = re.compile(r"(?:\./)?[\w*.-]+(?:/[\w*.-]+)+/?|\./[\w*.-]+|[\w.-]+/")
@@ -55,7 +56,7 @@ IN = re.compile(r"(,?)\s*in\s*")
 THERE = re.compile(r"(,?)\s*(?:there\b|in the same (?:file|proof)\b)")
 
 # What a file defines, by its language: fields, parameters and variants too.
-RUST = r"\b(?:fn|struct|enum|const|static|type|mod) +(\w+)|\b(\w+):\s|^ +([A-Z]\w*)[,({ ]|^ *pub use [\w:]*\b(\w+);"
+RUST = r"\b(?:fn|struct|enum|trait|const|static|type|mod) +(\w+)|\b(\w+):\s|^ +([A-Z]\w*)[,({ ]|^ *pub use [\w:]*\b(\w+);"
 DEFINITIONS = {
     ".antt": r"^ *(?:(?:pub|abbrev|unfoldable) +)*(?:(?:record|data|mod|ruleset) +([^\s:]+)|([^\s(){}:;,]+) *:(?: |$))",
     ".rt": RUST,
@@ -76,15 +77,15 @@ def defined(path):
     text = re.sub(COMMENTS.get(path.suffix, r"\Z"), "", text, flags=re.M)
     found = re.findall(DEFINITIONS.get(path.suffix, DEFINITIONS[""]), text, re.M)
     names = {name for one in found for name in ([one] if isinstance(one, str) else one) if name}
-    for again in re.findall(r"^(?:unfoldable )?pub use \S+\.\{([^}]*)\}", text, re.M):
-        names |= set(re.split(r",\s*", again))
+    for again in re.findall(r"^ *(?:unfoldable )?pub use \S+(?:\.|::)\{([^}]*)\}", text, re.M):
+        names |= {one.split()[-1] for one in again.split(",") if one.strip()}  # of `a as b` the latter
     return names
 
 
 def members(path):
     """What stands inside the types of a file in Rattle, Rust or Python: (type, name)."""
-    kind = r"^(?:pub )?(?:impl(?:<[^>]*>)?(?: [\w:<>]+ for)?|enum|struct|class) (\w+)"
-    inside = r" +(?:pub(?:\(\w+\))? )?(?:const )?(?:fn |def )?(\w+)"
+    kind = r"^(?:pub )?(?:impl(?:<[^>]*>)?(?: [\w:<>]+ for)?|enum|struct|trait|class) (\w+)"
+    inside = r" +(?:pub(?:\(\w+\))? )?(?:const |ghost )?(?:fn |def )?(\w+)"
     type_ = None
     for line in path.read_text(encoding="utf-8", errors="replace").splitlines():
         opened, member = re.match(kind, line), re.match(inside, line)
