@@ -10,23 +10,13 @@ use Rattle.bits.proofs.Texts.{bits-block}
 use Rattle.bits.proofs.Owned.{arrays}
 use borrow.Author.Rules.{rules}
 use Rattle.ending.specs.Inner.Endings.{restored_bytes}
-use Rattle.ending.proofs.restore.Statement.{statement}
-use Rattle.ending.proofs.restore.Tie as tie
+use Rattle.ending.proofs.restore.Goals as goal
 
-slice-aggregate-put-bits : tie.Need-slice-aggregate-put-bits
-slice-aggregate-put-bits c = search rules
-
-put-bits-requires : tie.Need-put-bits-requires
-put-bits-requires c κs = search rules
-
-returns : tie.Need-returns
+pub returns : goal.returns
 unfolding restored_bytes put_bits
 returns c =
-    let s = c.before.before.before in
+    let s = c in
     let a = s.args in
     let h : Block a.end = search arrays in
     let size : 0 + length (take a.size (bits a.end)) ≡ a.size = simp (length-take, bits-block h) (omega arith) in
-    c.before.put-bits.ensures ∙ ap (λ (k : ℕ). pack (take a.size (bits a.end)) ++ drop (bytes_for k) a.opened) size
-
-pub restore_spec : {M : Type 1} → statement M
-restore_spec = tie.close (tie.spec slice-aggregate-put-bits put-bits-requires returns)
+    c.put_bits.ensures ∙ ap (λ (k : ℕ). pack (take a.size (bits a.end)) ++ drop (bytes_for k) a.opened) size
