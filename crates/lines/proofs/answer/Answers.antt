@@ -1,0 +1,23 @@
+-- `lines::answer` meets its contract: the form, then the opening, then the feed (`RequestLines`). Assumes nothing.
+use native.Mathlib.Nat.{le_trans}
+use native.Mathlib.Omega.{arith}
+use borrow.Author.Rules.{rules}
+use Rattle.grammar.specs.Answers.{Within}
+use Rattle.lines.proofs.RequestLines.{part_size, bad-form, form-fits, opening-prints, refused_opening, accepted-opening}
+use Rattle.lines.proofs.answer.Goals as goal
+
+pub returns-in_default : goal.returns-in_default
+returns-in_default c = rw (bad-form c.parse.ensures c.in_default.is) c.refusal.ensures
+
+pub refusal-requires-then-opening-ne0 : goal.refusal-requires-then-opening-ne0
+refusal-requires-then-opening-ne0 c =
+    let prints = opening-prints c.parse.ensures c.in-Lines.is c.open_with-opened.ensures in
+    (omega arith, omega arith, omega arith)
+
+pub returns-then-opening-ne0 : goal.returns-then-opening-ne0
+returns-then-opening-ne0 c =
+    rw (refused_opening c.parse.ensures c.in-Lines.is c.open_with-opened.ensures (λ z. omega arith)) c.refusal-then-opening-ne0.ensures
+
+pub returns : goal.returns
+returns c =
+    rw (accepted-opening c.parse.ensures c.in-Lines.is c.open_with-opened.ensures (omega arith)) c.feed_all.ensures

@@ -1,0 +1,37 @@
+-- `stealing::message::message_number` meets its contract: each test is a question's. Assumes nothing.
+use mathlib.Core.Path.{◌≡◌, refl, sym, ap, ◌∙◌}
+use mathlib.Core.Bool.{true}
+use borrow.Author.Tests.{not-true, not-false}
+use Rattle.bits.specs.Texts.{bytes_for}
+use Rattle.questions.specs.Questions.{ask, max_bits, bits_ok, room_ok}
+use Rattle.stealing.specs.Calls.{message_ok, message_questions}
+use borrow.Author.Rules.{rules}
+use Rattle.stealing.proofs.message.message_number.Goals as goal
+
+pub returns-then-not-bits_ok : goal.returns-then-not-bits_ok
+unfolding message_questions ask
+returns-then-not-bits_ok c = rw (sym c.bits_ok.ensures ∙ c.if-not-bits_ok.true) refl
+
+pub returns-then-not-message_ok : goal.returns-then-not-message_ok
+unfolding message_questions ask
+returns-then-not-message_ok c =
+    let yes6 : bits_ok max_bits c.args.bytes c.args.bits ≡ true = sym c.bits_ok.ensures ∙ c.if-not-bits_ok.false in
+    rw (yes6, sym c.message_ok.ensures ∙ c.if-not-message_ok.true) refl
+
+pub returns-then-not-room_ok : goal.returns-then-not-room_ok
+unfolding message_questions ask
+returns-then-not-room_ok c =
+    let yes6 : bits_ok max_bits c.args.bytes c.args.bits ≡ true = sym c.bits_ok.ensures ∙ c.if-not-bits_ok.false in
+    let yes13 : message_ok c.args.bits ≡ true = sym c.message_ok.ensures ∙ c.if-not-message_ok.false in
+    let room : let a = c.args in c.room_ok.result ≡ room_ok a.size a.place (bytes_for a.bits) = c.room_ok.ensures ∙ ap (room_ok _ _) c.bytes_for.ensures in
+    let t = c in
+    rw (yes6, yes13, sym room ∙ c.if-not-room_ok.true) refl
+
+pub returns : goal.returns
+unfolding message_questions ask
+returns c =
+    let yes6 : bits_ok max_bits c.args.bytes c.args.bits ≡ true = sym c.bits_ok.ensures ∙ c.if-not-bits_ok.false in
+    let yes13 : message_ok c.args.bits ≡ true = sym c.message_ok.ensures ∙ c.if-not-message_ok.false in
+    let room : let a = c.args in c.room_ok.result ≡ room_ok a.size a.place (bytes_for a.bits) = c.room_ok.ensures ∙ ap (room_ok _ _) c.bytes_for.ensures in
+    let t = c in
+    rw (yes6, yes13, sym room ∙ c.if-not-room_ok.false) refl
