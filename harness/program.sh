@@ -62,6 +62,10 @@ build_library() { # NAME
     build "$1" lib "lib$1.a" "target/staticlib/lib$1.a"
 }
 
+have_library() { # NAME
+    is_current "target/staticlib/lib$1.a" "$1" || build_library "$1"
+}
+
 have_program() { # NAME
     is_current "target/bin/$1" "$1" || {
         command -v rt >/dev/null || { echo 'the Rattle kit is missing: no rt on PATH (CONTRIBUTING.md says what to do)'; return 1; }
