@@ -42,7 +42,7 @@ progress() { # NAME COUNT
     done
 }
 
-# Has rt prove and build, and copies what it made. The copy has the date of the start: what is changed meanwhile is newer.
+# Has rt prove and build, and copies what it made, with the date of the start: what is changed meanwhile is newer.
 build() { # NAME COMMAND FILE COPY
     local name=$1 command=$2 file=crates/$1/out/$3 copy=$4 log=target/$1.log start=target/$1.start
     mkdir -p "$(dirname "$copy")"
