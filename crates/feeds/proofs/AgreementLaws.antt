@@ -7,7 +7,7 @@ use lib.ListN.{length}
 use Rattle.calls.specs.Calls.{empty, call}
 use Rattle.rules.specs.Rules.{units_in}
 use Rattle.modes.specs.declared.session.Session.{Session}
-use Rattle.modes.specs.Sessions.{FedBy, feed_number_within, fed_text}
+use Rattle.modes.specs.Sessions.{feed_number_within, fed_text}
 use Rattle.feeds.specs.Machine.{Machine, machine_units, machine_number, machine_feed}
 use Rattle.feeds.specs.Lists.{Call, FedCall, fed, Feeds, accepted, fed_bits, written_bits, all_fed, all_written, machine_after, machine_fed}
 use Rattle.feeds.specs.Promises.{AgreesThroughout}

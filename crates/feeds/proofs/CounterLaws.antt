@@ -19,7 +19,7 @@ use Rattle.rules.proofs.Counters.{ctr_register, counter_add, counter-distinct}
 use Rattle.rules.proofs.Taken.{counter_bounds}
 use Rattle.modes.specs.declared.session.Session.{Session}
 use Rattle.modes.specs.Sessions.{Arrays, opened_session, session_register, fed_session}
-use Rattle.feeds.specs.Lists.{Call, FedCall, fed, Feeds, accepted, fed_bits, all_fed, along, registers_used}
+use Rattle.feeds.specs.Lists.{Call, fed, Feeds, accepted, fed_bits, all_fed, along, registers_used}
 use Rattle.modes.specs.Promises.{RefusedUnchanged}
 use Rattle.feeds.specs.Counters.{EachOnce, CounterBlocksDiffer, OpenedBlocksDiffer, OpenedBlocksCountUp}
 use Rattle.modes.proofs.SessionLaws.{enc_by, dec_by, fed-ready}

@@ -13,7 +13,7 @@ use Rattle.calls.proofs.CallLaws.{kept, left_out}
 use Rattle.rules.specs.Lengths.{whole_units}
 use Rattle.questions.specs.Questions.{max_units}
 use Rattle.modes.specs.declared.session.Session.{Session}
-use Rattle.modes.specs.Sessions.{FedBy, fed_text, fed_session, session_text}
+use Rattle.modes.specs.Sessions.{fed_text, fed_session, session_text}
 use Rattle.feeds.specs.Lists.{Call, FedCall, Feed, fed, Feeds, accepted, fed_bits, written_bits, all_fed, all_written, all_runs}
 use Rattle.modes.specs.Promises.{RefusedUnchanged}
 use Rattle.feeds.specs.Promises.{AcceptedAlone, RunsAddUp, UnitsStayWithin}

@@ -13,7 +13,7 @@ use Rattle.rules.specs.Rules.{units_in}
 use Rattle.rules.proofs.Counts.{units_none}
 use Rattle.rules.proofs.Append.{register-first, register-second, units-append}
 use Rattle.modes.specs.declared.session.Session.{Session}
-use Rattle.modes.specs.Sessions.{FedBy, session_register, fed_session, fed_text}
+use Rattle.modes.specs.Sessions.{session_register, fed_session, fed_text}
 use Rattle.feeds.specs.Machine.{Machine, machine_unit, machine_units, unit_registers, feed_registers}
 use Rattle.feeds.specs.Lists.{Call, FedCall, fed, Feeds, accepted, fed_bits, all_fed, along, registers_after, call_registers, machine_fed}
 use Rattle.modes.proofs.SessionLaws.{Ready, some_bits, bits-of-units, enc_by, dec_by, whole_fed}

@@ -9,7 +9,7 @@ use Rattle.calls.specs.Calls.{empty, call}
 use Rattle.rules.specs.Rules.{units_in, register_at}
 use Rattle.rules.proofs.Counts.{units_none}
 use Rattle.modes.specs.declared.session.Session.{Session}
-use Rattle.modes.specs.Sessions.{FedBy, session_register, fed_session}
+use Rattle.modes.specs.Sessions.{session_register, fed_session}
 use Rattle.feeds.specs.Machine.{Machine}
 use Rattle.feeds.specs.Lists.{Call, FedCall, fed, Feeds, fed_bits, along, registers_used, machine_after, registers_after, machine_fed, call_registers}
 use Rattle.modes.proofs.SessionLaws.{Ready, some_bits}

@@ -1,5 +1,5 @@
 -- The test of `alike` says what it means, both ways. Assumes nothing.
-use Prim.Native.Nat.{ℕ, zero, suc, ◌≤◌}
+use Prim.Native.Nat.{ℕ, ◌≤◌}
 use mathlib.Core.Path.{◌≡◌, refl, sym, ap, ◌∙◌}
 use mathlib.Core.Bool.{Bool, true, false, beq, and-eq-true_iff}
 use mathlib.Core.List.{List}

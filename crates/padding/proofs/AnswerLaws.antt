@@ -7,7 +7,7 @@ use native.Mathlib.Omega.{arith}
 use borrow.Author.Tests.{eq-eqb, ne_eqb}
 use lib.Dec.{eqb}
 use lib.ListN.{length}
-use Rattle.bits.specs.Texts.{bits, bytes_for}
+use Rattle.bits.specs.Texts.{bytes_for}
 use Rattle.questions.specs.Questions.{ask, max_bits}
 use Rattle.questions.specs.Promises.{AcceptedExactly}
 use Rattle.modes.specs.Sessions.{fed_text, written}

@@ -7,7 +7,7 @@ use native.Mathlib.Omega.{arith}
 use borrow.Author.Tests.{eq-eqb, ne_eqb}
 use lib.Dec.{eqb}
 use lib.ListN.{length, drop}
-use Rattle.bits.specs.Texts.{bits, bytes_for}
+use Rattle.bits.specs.Texts.{bytes_for}
 use Rattle.modes.specs.Sessions.{fed_text, written}
 use Rattle.padding.specs.declared.strip.Unpadded.{Unpadded}
 use Rattle.padding.specs.Padding.{zeros_for, padded, padded_length, max_pad_bits, pad_number, unpadded_length, unpad_number, UnpaddedBy}

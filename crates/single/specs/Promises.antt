@@ -6,11 +6,10 @@ use Rattle.aes.specs.Promises.{KeyLength}
 use Rattle.rules.specs.declared.Mode.TheVariants.{Cbc}
 use Rattle.rules.specs.declared.Direction.TheVariants.{Decrypt}
 use Rattle.rules.specs.Rules.{unit_at}
-use Rattle.modes.specs.declared.session.Session.{Session}
 use Rattle.modes.specs.declared.session.Opened.{Opened}
 use Rattle.modes.specs.declared.session.Fed.{Fed}
 use Rattle.questions.specs.Questions.{ask}
-use Rattle.modes.specs.Sessions.{Arrays, OpenedBy, FedBy, session_text}
+use Rattle.modes.specs.Sessions.{OpenedBy, FedBy, session_text}
 use Rattle.single.specs.Single.{block_at, block_ok, neighbour_questions, neighbour_answer, plain_block, SingleBy}
 
 -- For every j the single block is block j of what a whole decrypting CBC feed of the ciphertext gives.

@@ -1,5 +1,5 @@
 -- What is promised of the calls (request 03).
-use Rattle.std.specs.Prelude.{ℕ, ◌+◌, ◌-◌, ◌*◌, ◌%◌, ◌≤◌, ◌<◌, ◌≡◌, ◌↔◌, Bool, List, length, take, drop}
+use Rattle.std.specs.Prelude.{ℕ, ◌+◌, ◌*◌, ◌%◌, ◌≤◌, ◌<◌, ◌≡◌, ◌↔◌, Bool, List, length, take, drop}
 use Rattle.bits.specs.Texts.{bytes_for}
 use Rattle.bits.specs.Blocks.{Bytes}
 use Rattle.aes.specs.Calls.{encrypted, decrypted}

@@ -1,6 +1,6 @@
 -- `ending::finish` meets its contract: the two windows are the two blocks, and what is made of their bytes is what
 -- becomes of the message of their bits (`EndingLaws`). Assumes nothing.
-use Prim.Native.Nat.{◌*◌, ◌/◌}
+use Prim.Native.Nat.{◌/◌}
 use mathlib.Core.Path.{◌≡◌}
 use native.Mathlib.Omega.{arith}
 use lib.ListN.{length, take, drop, length-take, length-drop}
@@ -15,7 +15,6 @@ use Rattle.cipher.proofs.CipherLaws.{undo_each_other}
 use Rattle.stolen.proofs.BlockLaws.{Whole}
 use Rattle.stolen.proofs.TailLaws.{Tail}
 use Rattle.ending.proofs.EndingLaws.{encrypted-ending, decrypted-ending}
-use borrow.Author.Rules.{rules}
 use Rattle.ending.proofs.finish.Goals as goal
 
 pub returns-in-Encrypt : goal.returns-in-Encrypt

@@ -8,7 +8,6 @@ use Rattle.bits.specs.Texts.{bits, bytes_for, pack, put_bits}
 use Rattle.bits.specs.Blocks.{Block}
 use Rattle.bits.proofs.Texts.{bits-block}
 use Rattle.bits.proofs.Owned.{arrays}
-use borrow.Author.Rules.{rules}
 use Rattle.ending.specs.Inner.Endings.{restored_bytes}
 use Rattle.ending.proofs.restore.Goals as goal
 

@@ -1,9 +1,6 @@
 -- `lines::answer` meets its contract: the form, then the opening, then the feed (`RequestLines`). Assumes nothing.
-use native.Mathlib.Nat.{le_trans}
 use native.Mathlib.Omega.{arith}
-use borrow.Author.Rules.{rules}
-use Rattle.grammar.specs.Answers.{Within}
-use Rattle.lines.proofs.RequestLines.{part_size, bad-form, form-fits, opening-prints, refused_opening, accepted-opening}
+use Rattle.lines.proofs.RequestLines.{bad-form, opening-prints, refused_opening, accepted-opening}
 use Rattle.lines.proofs.answer.Goals as goal
 
 pub returns-in_default : goal.returns-in_default

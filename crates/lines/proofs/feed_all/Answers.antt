@@ -1,15 +1,14 @@
 -- `lines::feed_all` meets its contract: the message is the digits' bytes, and the feed's number decides what is printed
 -- (`FeedLines`). Assumes nothing.
-use mathlib.Core.Path.{sym, ap, ◌∙◌}
 use Prim.Native.Nat.{ℕ, ◌/◌}
 use native.Mathlib.Omega.{arith}
-use lib.ListN.{length, drop, replicate}
+use lib.ListN.{length, replicate}
 use lib.Seq.{length-take-le, take_at}
 use Rattle.bits.proofs.Owned.{arrays}
 use Rattle.modes.specs.Sessions.{Arrays}
 use Rattle.digits.specs.Texts.{hex_bytes}
 use Rattle.digits.proofs.DigitLaws.{length-hex_bytes}
-use Rattle.lines.proofs.FeedLines.{decoded, front_there, WholeFeed, whole_feed}
+use Rattle.lines.proofs.FeedLines.{decoded, WholeFeed, whole_feed}
 use borrow.Author.Rules.{rules, length_unmapped}
 use Rattle.lines.proofs.feed_all.Goals as goal
 

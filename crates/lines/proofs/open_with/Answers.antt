@@ -1,10 +1,7 @@
 -- `lines::open_with` meets its contract: what is opened is the bytes of the digits. Assumes nothing.
-use mathlib.Core.Path.{sym, ap, ◌∙◌}
 use native.Mathlib.Omega.{arith}
-use lib.ListN.{length, replicate}
-use Rattle.digits.proofs.DigitLaws.{length-hex_bytes}
+use lib.ListN.{replicate}
 use Rattle.lines.proofs.FeedLines.{decoded}
-use borrow.Author.Rules.{rules}
 use Rattle.lines.proofs.open_with.Goals as goal
 
 pub returns : goal.returns

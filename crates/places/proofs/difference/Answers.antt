@@ -1,13 +1,12 @@
 -- `places::difference` meets its contract. The loop's invariant: the bytes from i on are subtracted. Assumes nothing.
 use mathlib.Core.Path.{◌≡◌, ◌∙◌}
-use Prim.Native.Nat.{suc, ◌-◌, ◌*◌, ◌≤◌, min}
+use Prim.Native.Nat.{suc, ◌-◌}
 use native.Mathlib.Omega.{arith}
 use borrow.Author.Rules.{rules}
-use lib.ListN.{length, drop, length-set}
-use lib.Pow.{pow_pos, pow_mono}
+use lib.ListN.{length-set}
 use Rattle.bits.specs.Blocks.{Block}
 use Rattle.bits.proofs.Owned.{arrays}
-use Rattle.places.proofs.BorrowLaws.{Subtracted, start, turn, subtracted}
+use Rattle.places.proofs.BorrowLaws.{start, turn, subtracted}
 use Rattle.places.proofs.difference.Goals as goal
 
 pub loop-i-init : goal.loop-i-init

@@ -1,13 +1,8 @@
 -- `places::difference` meets its contract. The loop's invariant: the bytes from i on are subtracted. Assumes nothing.
-use mathlib.Core.Path.{◌≡◌, ◌∙◌}
-use Prim.Native.Nat.{suc, ◌-◌, ◌*◌, ◌≤◌, min}
-use native.Mathlib.Omega.{arith}
-use borrow.Author.Rules.{rules}
-use lib.ListN.{length, drop, length-set}
-use lib.Pow.{pow_pos, pow_mono}
-use Rattle.bits.specs.Blocks.{Block}
-use Rattle.bits.proofs.Owned.{arrays}
-use Rattle.places.proofs.BorrowLaws.{Subtracted, start, turn, subtracted}
+use mathlib.Core.Path.{◌≡◌}
+use Prim.Native.Nat.{◌≤◌}
+use lib.ListN.{length, drop}
+use Rattle.places.proofs.BorrowLaws.{Subtracted}
 use Rattle.places.proofs.difference.Given as goal
 
 abbrev pub invariant-loop-i : goal.invariant-loop-i

@@ -1,8 +1,6 @@
 -- `places::number` meets its contract: at each return the questions before it are answered 'yes'. Assumes nothing.
 use mathlib.Core.Path.{◌≡◌, sym, ◌∙◌}
 use mathlib.Core.Bool.{true}
-use borrow.Author.Rules.{rules}
-use borrow.Author.Tests.{not-true, not-false}
 use Rattle.rules.specs.declared.Mode.TheVariants.{Ctr}
 use Rattle.rules.specs.Lengths.{counter_length_ok}
 use Rattle.places.proofs.AnswerLaws.{answers-14, answers-16, answers-0}

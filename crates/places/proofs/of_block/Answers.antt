@@ -1,8 +1,6 @@
 -- `places::of_block` meets its contract: refused, zero bytes; accepted, the difference. Assumes nothing.
-use mathlib.Core.Path.{◌≡◌, refl, sym, ◌∙◌}
+use mathlib.Core.Path.{◌≡◌, sym, ◌∙◌}
 use native.Mathlib.Omega.{arith}
-use borrow.Author.Rules.{rules}
-use borrow.Author.Tests.{eq-eqb, ne_eqb}
 use Rattle.places.specs.Answers.{of_block_number}
 use Rattle.places.proofs.AnswerLaws.{accepted-length}
 use Rattle.places.proofs.of_block.Goals as goal

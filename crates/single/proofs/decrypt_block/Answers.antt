@@ -5,7 +5,6 @@ use mathlib.Core.List.{List}
 use Prim.Native.Nat.{ℕ, ◌-◌, ◌≤◌}
 use native.Mathlib.Omega.{arith}
 use lib.ListN.{length, length-take, length-drop}
-use borrow.Author.Tests.{not-true, not-false}
 use Rattle.bits.specs.Texts.{bits}
 use Rattle.bits.specs.Blocks.{Block}
 use Rattle.bits.proofs.Owned.{arrays}
@@ -15,7 +14,6 @@ use Rattle.modes.specs.Sessions.{written}
 use Rattle.modes.proofs.AnswerLaws.{key_no, key_yes}
 use Rattle.single.proofs.NumberLaws.{NeighbourTaken, neighbour_taken, number-1, number-early, number-8, number-0}
 use Rattle.single.proofs.AnswerLaws.{room_there, single-refused, single-written, plain_is, block_written}
-use borrow.Author.Rules.{rules}
 use Rattle.single.proofs.decrypt_block.Goals as goal
 
 pub returns-then-schedule-ne0 : goal.returns-then-schedule-ne0

@@ -5,7 +5,6 @@ use native.Mathlib.Omega.{arith}
 use lib.ListN.{length}
 use Rattle.single.proofs.NumberLaws.{neighbour_taken, block_there}
 use Rattle.single.proofs.NeighbourLaws.{answer-refused, answer-taken, neighbour_first, neighbour_later, nothing_behind}
-use borrow.Author.Rules.{rules}
 use Rattle.single.proofs.neighbour.Goals as goal
 
 -- past the questions block j is there

@@ -1,9 +1,8 @@
 -- `single::neighbour_number` meets its contract: each test is a question's. Assumes nothing.
 use mathlib.Core.Path.{sym, ◌∙◌}
-use borrow.Author.Tests.{eq-eqb, ne_eqb, not-true, not-false}
+use borrow.Author.Tests.{eq-eqb, ne_eqb}
 use Rattle.questions.specs.Questions.{ask, iv_ok}
 use Rattle.single.specs.Single.{neighbour_questions}
-use borrow.Author.Rules.{rules}
 use Rattle.single.proofs.neighbour_number.Goals as goal
 
 pub returns-then-iv-ne-BLOCK : goal.returns-then-iv-ne-BLOCK

@@ -11,7 +11,6 @@ use Rattle.cipher.specs.Cipher.{Dec}
 use Rattle.single.specs.Single.{neighbour_of}
 use Rattle.single.proofs.NumberLaws.{NeighbourTaken, neighbour_taken, iv-length, block_there}
 use Rattle.single.proofs.NeighbourLaws.{answer-taken, neighbour_is, window_at, window_whole}
-use borrow.Author.Rules.{rules}
 use Rattle.bits.proofs.Owned.{arrays}
 use Rattle.single.proofs.plain_block.Goals as goal
 

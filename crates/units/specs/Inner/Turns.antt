@@ -1,6 +1,6 @@
 -- What the code of one unit gives, by the unit rules: a unit stands left-aligned in 16 bytes, and so does what it
 -- becomes.
-use Rattle.std.specs.Prelude.{ℕ, ◌≡◌, Bool, true, false, cond, List, eqb, leb, take}
+use Rattle.std.specs.Prelude.{ℕ, ◌≡◌, Bool, false, cond, List, eqb, leb, take}
 use Rattle.bits.specs.Xor.{xor_bytes}
 use Rattle.bits.specs.Texts.{bits}
 use Rattle.bits.specs.Blocks.{Block}

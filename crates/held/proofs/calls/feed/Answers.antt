@@ -1,7 +1,6 @@
 -- `held::calls::feed` meets its contract: the number is tested, then the session is fed (`CallLaws`). Assumes nothing.
 use mathlib.Core.Path.{refl}
 use native.Mathlib.Omega.{arith}
-use borrow.Author.Rules.{rules}
 use borrow.Author.Tests.{ne_eqb}
 use Rattle.held.proofs.CallLaws.{not-fed, fed}
 use Rattle.held.proofs.calls.feed.Goals as goal

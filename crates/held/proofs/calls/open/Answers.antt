@@ -2,7 +2,6 @@
 -- nothing.
 use mathlib.Core.Path.{refl, ap, ◌∙◌}
 use native.Mathlib.Omega.{arith}
-use borrow.Author.Rules.{rules}
 use Rattle.rules.specs.Numbers.{direction_of}
 use Rattle.held.specs.Held.{held_of}
 use Rattle.held.proofs.CallLaws.{not_opened, opened}

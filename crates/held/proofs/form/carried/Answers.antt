@@ -1,6 +1,5 @@
 -- `held::form::carried` meets its contract, part by part. Assumes nothing.
 use mathlib.Core.Path.{refl}
-use borrow.Author.Rules.{rules}
 use Rattle.held.specs.Held.{carried_held}
 use Rattle.held.proofs.form.carried.Goals as goal
 

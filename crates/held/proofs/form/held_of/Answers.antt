@@ -1,6 +1,5 @@
 -- `held::form::held_of` meets its contract, part by part. Assumes nothing.
 use mathlib.Core.Path.{refl}
-use borrow.Author.Rules.{rules}
 use Rattle.held.specs.Held.{held_of}
 use Rattle.held.proofs.form.held_of.Goals as goal
 

@@ -1,6 +1,5 @@
 -- `held::form::moved` meets its contract, part by part. Assumes nothing.
 use mathlib.Core.Path.{refl}
-use borrow.Author.Rules.{rules}
 use Rattle.held.specs.Held.{moved_held}
 use Rattle.held.proofs.form.moved.Goals as goal
 

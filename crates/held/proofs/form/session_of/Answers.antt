@@ -1,6 +1,5 @@
 -- `held::form::session_of` meets its contract, part by part. Assumes nothing.
 use mathlib.Core.Path.{refl}
-use borrow.Author.Rules.{rules}
 use Rattle.held.specs.Held.{session_of}
 use Rattle.held.proofs.form.session_of.Goals as goal
 

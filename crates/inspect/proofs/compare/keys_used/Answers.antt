@@ -1,7 +1,6 @@
 -- `inspect::compare::keys_used` meets its contract. Assumes nothing.
 use native.Mathlib.Omega.{arith}
 use Rattle.inspect.specs.Alike.{keys_used}
-use borrow.Author.Rules.{rules}
 use Rattle.inspect.proofs.compare.keys_used.Goals as goal
 
 pub returns-then-rounds-lt14 : goal.returns-then-rounds-lt14

@@ -1,6 +1,6 @@
 -- `inspect::compare::same_first` meets its contract. The loop's invariant: the bytes passed are equal. Assumes nothing.
-use mathlib.Core.Path.{◌≡◌, refl, sym, ap, ◌∙◌}
-use Prim.Native.Nat.{ℕ, ◌≤◌}
+use mathlib.Core.Path.{◌≡◌, sym, ap, ◌∙◌}
+use Prim.Native.Nat.{ℕ}
 use native.Mathlib.Omega.{arith}
 use Rattle.inspect.specs.Alike.{same_first}
 use Rattle.inspect.proofs.SameLaws.{same_left, differ-left, none_differ}

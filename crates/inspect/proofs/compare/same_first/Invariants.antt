@@ -1,9 +1,7 @@
 -- `inspect::compare::same_first` meets its contract. The loop's invariant: the bytes passed are equal. Assumes nothing.
-use mathlib.Core.Path.{◌≡◌, refl, sym, ap, ◌∙◌}
-use Prim.Native.Nat.{ℕ, ◌≤◌}
-use native.Mathlib.Omega.{arith}
+use mathlib.Core.Path.{◌≡◌}
+use Prim.Native.Nat.{◌≤◌}
 use Rattle.inspect.specs.Alike.{same_first}
-use Rattle.inspect.proofs.SameLaws.{same_left, differ-left, none_differ}
 use Rattle.inspect.proofs.compare.same_first.Given as goal
 
 abbrev pub invariant-loop-left : goal.invariant-loop-left

@@ -5,7 +5,6 @@ use borrow.Author.Tests.{eq-eqb, ne_eqb, not-true, not-false}
 use lib.Dec.{eqb}
 use Rattle.rules.specs.Numbers.{mode_number, is_decrypt}
 use Rattle.inspect.specs.Alike.{same_settings}
-use borrow.Author.Rules.{rules}
 use Rattle.inspect.proofs.compare.same_settings.Goals as goal
 
 pub returns-then-mode_number : goal.returns-then-mode_number

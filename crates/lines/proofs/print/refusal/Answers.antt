@@ -1,8 +1,6 @@
 -- `lines::print::refusal` meets its contract: one digit or two, and a line feed. Assumes nothing.
 use native.Mathlib.Omega.{arith}
-use lib.ListN.{length-set}
 use Rattle.lines.proofs.WrittenLines.{small_number, large_number}
-use borrow.Author.Rules.{rules}
 use Rattle.lines.proofs.print.refusal.Goals as goal
 
 pub returns-then-number-le9 : goal.returns-then-number-le9

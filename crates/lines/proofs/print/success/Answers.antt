@@ -1,8 +1,6 @@
 -- `lines::print::success` meets its contract: 0, a space, the digits and a line feed. Assumes nothing.
 use native.Mathlib.Omega.{arith}
-use lib.ListN.{length-set}
 use Rattle.lines.proofs.WrittenLines.{zero_number}
-use borrow.Author.Rules.{rules}
 use Rattle.lines.proofs.print.success.Goals as goal
 
 pub returns : goal.returns

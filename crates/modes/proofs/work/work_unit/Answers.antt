@@ -7,7 +7,6 @@ use lib.ListN.{take, drop}
 use Rattle.bits.specs.Texts.{bits, pack_to}
 use Rattle.units.specs.Inner.Turns.{unit_size_ok}
 use Rattle.modes.proofs.WorkLaws.{part_all, unit-inside, unit-size-ok, unit-fits, unit-worked}
-use borrow.Author.Rules.{rules}
 use Rattle.modes.proofs.work.work_unit.Goals as goal
 
 pub overflow_mul-at : goal.overflow_mul-at

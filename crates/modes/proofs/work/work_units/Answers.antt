@@ -1,14 +1,12 @@
 -- The invariant: t units are through (`WorkLaws`). The measure is the units left. Assumes nothing.
-use Prim.Native.Nat.{◌-◌, ◌≤◌, zero-le}
-use mathlib.Core.Path.{◌≡◌, refl, sym}
+use Prim.Native.Nat.{zero-le}
+use mathlib.Core.Path.{◌≡◌, refl}
 use native.Mathlib.Numerals.{add-one}
 use native.Mathlib.Omega.{arith}
-use lib.ListN.{length}
 use Rattle.bits.specs.Blocks.{Block}
 use Rattle.bits.proofs.Owned.{arrays}
 use Rattle.rules.specs.Rules.{units_in}
-use Rattle.modes.proofs.WorkLaws.{Through, none-through, through-length, still-workable, one-through, all-through}
-use borrow.Author.Rules.{rules}
+use Rattle.modes.proofs.WorkLaws.{none-through, one-through, all-through}
 use Rattle.modes.proofs.work.work_units.Goals as goal
 
 pub loop-t-init : goal.loop-t-init

@@ -1,14 +1,6 @@
 -- The invariant: t units are through (`WorkLaws`). The measure is the units left. Assumes nothing.
-use Prim.Native.Nat.{◌-◌, ◌≤◌, zero-le}
-use mathlib.Core.Path.{◌≡◌, refl, sym}
-use native.Mathlib.Numerals.{add-one}
-use native.Mathlib.Omega.{arith}
-use lib.ListN.{length}
-use Rattle.bits.specs.Blocks.{Block}
-use Rattle.bits.proofs.Owned.{arrays}
-use Rattle.rules.specs.Rules.{units_in}
-use Rattle.modes.proofs.WorkLaws.{Through, none-through, through-length, still-workable, one-through, all-through}
-use borrow.Author.Rules.{rules}
+use Prim.Native.Nat.{◌-◌, ◌≤◌}
+use Rattle.modes.proofs.WorkLaws.{Through}
 use Rattle.modes.proofs.work.work_units.Given as goal
 
 abbrev pub invariant-loop-t : goal.invariant-loop-t

@@ -1,10 +1,9 @@
 -- `padding::append::copy_bytes` meets its contract. The loop's invariant: i bytes of the input stand at the front.
 -- Assumes nothing.
-use mathlib.Core.Path.{◌≡◌, refl}
+use mathlib.Core.Path.{◌≡◌}
 use Prim.Native.Nat.{◌≤◌, ◌-◌}
-use native.Mathlib.Omega.{arith}
-use lib.ListN.{length, length-set}
-use Rattle.bits.proofs.Fills.{filled, filled_next}
+use lib.ListN.{length}
+use Rattle.bits.proofs.Fills.{filled}
 use Rattle.padding.proofs.append.copy_bytes.Given as goal
 
 abbrev pub invariant-loop-i : goal.invariant-loop-i

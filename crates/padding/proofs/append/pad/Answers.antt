@@ -11,7 +11,6 @@ use Rattle.modes.proofs.WorkLaws.{part_all}
 use Rattle.padding.specs.Padding.{padded, padded_length, pad_number}
 use Rattle.padding.proofs.PadLaws.{padded_bytes}
 use Rattle.padding.proofs.AnswerLaws.{PadTaken, pad_taken, pad-refused, pad-accepted}
-use borrow.Author.Rules.{rules}
 use Rattle.padding.proofs.append.pad.Goals as goal
 
 pub returns-then-number-ne0 : goal.returns-then-number-ne0

@@ -2,13 +2,11 @@
 use Prim.Native.Nat.{ℕ, ◌/◌}
 use mathlib.Core.Path.{◌≡◌, sym, ap, ◌∙◌}
 use mathlib.Core.Bool.{true}
-use borrow.Author.Tests.{not-true, not-false}
 use Rattle.bits.specs.Texts.{bytes_for}
 use Rattle.questions.specs.Questions.{ask, bits_ok, room_ok}
 use Rattle.questions.proofs.QuestionLaws.{bits_small}
 use Rattle.padding.specs.Padding.{padded_length, max_pad_bits, pad_questions}
 use Rattle.padding.proofs.PadLaws.{bytes_padded}
-use borrow.Author.Rules.{rules}
 use Rattle.padding.proofs.append.pad_number.Goals as goal
 
 pub returns-then-not-bits_ok : goal.returns-then-not-bits_ok

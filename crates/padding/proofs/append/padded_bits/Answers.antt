@@ -1,7 +1,6 @@
 -- `padding::append::padded_bits` meets its contract. Assumes nothing.
 use native.Mathlib.Omega.{arith}
 use Rattle.padding.specs.Padding.{zeros_for, padded_length}
-use borrow.Author.Rules.{rules}
 use Rattle.padding.proofs.append.padded_bits.Goals as goal
 
 pub returns : goal.returns

@@ -5,7 +5,6 @@ use native.Mathlib.Omega.{arith}
 use Rattle.bits.specs.Texts.{bytes_for}
 use Rattle.padding.specs.Padding.{zeros_for, padded_length}
 use Rattle.padding.proofs.PadLaws.{more_bytes, mark-put}
-use borrow.Author.Rules.{rules}
 use Rattle.padding.proofs.append.put_padded.Goals as goal
 
 pub copy_bytes-requires : goal.copy_bytes-requires

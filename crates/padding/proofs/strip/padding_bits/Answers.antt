@@ -1,6 +1,6 @@
 -- `padding::strip::padding_bits` meets its contract. The loop's invariant: the bits passed are 0. Assumes nothing.
-use mathlib.Core.Path.{◌≡◌, refl, sym, ap, ◌∙◌}
-use Prim.Native.Nat.{suc, ◌+◌, ◌-◌, ◌≤◌, ◌<◌}
+use mathlib.Core.Path.{◌≡◌, sym, ap, ◌∙◌}
+use Prim.Native.Nat.{suc, ◌+◌, ◌-◌}
 use native.Mathlib.Omega.{arith}
 use Rattle.bits.specs.Texts.{bits}
 use Rattle.padding.specs.Padding.{up_to_last_one}

@@ -1,10 +1,8 @@
 -- `padding::strip::padding_bits` meets its contract. The loop's invariant: the bits passed are 0. Assumes nothing.
-use mathlib.Core.Path.{◌≡◌, refl, sym, ap, ◌∙◌}
-use Prim.Native.Nat.{suc, ◌+◌, ◌-◌, ◌≤◌, ◌<◌}
-use native.Mathlib.Omega.{arith}
+use mathlib.Core.Path.{◌≡◌}
+use Prim.Native.Nat.{suc, ◌-◌, ◌≤◌, ◌<◌}
 use Rattle.bits.specs.Texts.{bits}
 use Rattle.padding.specs.Padding.{up_to_last_one}
-use Rattle.padding.proofs.OneLaws.{bit-passed, bit_found, before_first}
 use Rattle.padding.proofs.strip.padding_bits.Given as goal
 
 abbrev pub invariant-loop-n : goal.invariant-loop-n

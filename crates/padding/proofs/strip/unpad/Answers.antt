@@ -5,7 +5,6 @@ use lib.ListN.{length}
 use Rattle.padding.specs.Padding.{unpad_number}
 use Rattle.padding.proofs.OneLaws.{bits_left}
 use Rattle.padding.proofs.AnswerLaws.{UnpadTaken, unpad_taken, unpad-refused, unpad-accepted}
-use borrow.Author.Rules.{rules}
 use Rattle.padding.proofs.strip.unpad.Goals as goal
 
 pub returns-then-number-ne0 : goal.returns-then-number-ne0

@@ -1,11 +1,9 @@
 -- `padding::strip::unpad_number` meets its contract: each test is a question's. Assumes nothing.
 use mathlib.Core.Path.{◌≡◌, sym, ◌∙◌}
 use mathlib.Core.Bool.{true}
-use borrow.Author.Tests.{not-true, not-false}
 use Rattle.questions.specs.Questions.{ask, bits_ok, max_bits}
 use Rattle.padding.specs.Padding.{unpad_questions}
 use Rattle.padding.proofs.NumberLaws.{no_bits, broken_block, whole-blocks}
-use borrow.Author.Rules.{rules}
 use Rattle.padding.proofs.strip.unpad_number.Goals as goal
 
 pub returns-then-not-bits_ok : goal.returns-then-not-bits_ok

@@ -17,7 +17,6 @@ use Rattle.questions.proofs.QuestionLaws.{opening_taken}
 use Rattle.stealing.proofs.KeyLaws.{Keyed, keyed, stolen-bytes}
 use Rattle.stealing.proofs.NumberLaws.{opening-no, opening-yes, MessageTaken, message_taken}
 use Rattle.stealing.proofs.AnswerLaws.{steal-refused, steal-accepted}
-use borrow.Author.Rules.{rules}
 use Rattle.bits.proofs.Owned.{arrays}
 use Rattle.stealing.proofs.message.work.Goals as goal
 

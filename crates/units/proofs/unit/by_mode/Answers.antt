@@ -1,7 +1,6 @@
 -- The mode's own function; in ECB and CBC a unit is a whole block. Assumes nothing.
 use mathlib.Core.Logic.{inl, inr}
 use Rattle.units.proofs.TurnLaws.{any_counter, block_size, stream_size}
-use borrow.Author.Rules.{rules}
 use Rattle.units.proofs.unit.by_mode.Goals as goal
 
 pub cfb-requires : goal.cfb-requires

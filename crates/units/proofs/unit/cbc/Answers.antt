@@ -1,7 +1,6 @@
 -- The unit and the register are added before the block function, or after it. Assumes nothing.
 use Rattle.bits.proofs.Owned.{arrays}
 use Rattle.units.proofs.TurnLaws as Law
-use borrow.Author.Rules.{rules}
 use Rattle.units.proofs.unit.cbc.Goals as goal
 
 pub returns-in-Encrypt : goal.returns-in-Encrypt

@@ -3,7 +3,6 @@
 use Rattle.bits.specs.Blocks.{Block}
 use Rattle.bits.proofs.Owned.{arrays}
 use Rattle.units.proofs.TurnLaws as Law
-use borrow.Author.Rules.{rules}
 use Rattle.units.proofs.unit.cfb.Goals as goal
 
 pub returns-in-Encrypt : goal.returns-in-Encrypt

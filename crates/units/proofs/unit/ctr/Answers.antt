@@ -2,7 +2,6 @@
 use Rattle.bits.specs.Blocks.{Block}
 use Rattle.bits.proofs.Owned.{arrays}
 use Rattle.units.proofs.TurnLaws as Law
-use borrow.Author.Rules.{rules}
 use Rattle.units.proofs.unit.ctr.Goals as goal
 
 register_is : (s : goal.After-increment_block-next) → Block s.args.register

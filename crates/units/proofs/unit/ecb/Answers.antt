@@ -1,7 +1,6 @@
 -- The unit goes through the block function as a block. Assumes nothing.
 use Rattle.bits.proofs.Owned.{arrays}
 use Rattle.units.proofs.TurnLaws as Law
-use borrow.Author.Rules.{rules}
 use Rattle.units.proofs.unit.ecb.Goals as goal
 
 pub returns : goal.returns

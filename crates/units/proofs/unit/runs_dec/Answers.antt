@@ -1,7 +1,6 @@
 -- By the mode. Assumes nothing.
 use mathlib.Core.Path.{refl}
 use Rattle.units.specs.Inner.Turns.{runs_dec}
-use borrow.Author.Rules.{rules}
 use Rattle.units.proofs.unit.runs_dec.Goals as goal
 
 pub returns-in-Ecb : goal.returns-in-Ecb

@@ -11,7 +11,7 @@ use Rattle.bits.proofs.Texts.{length-bits, length-pack}
 use Rattle.bits.proofs.Owned.{arrays}
 use Rattle.rules.specs.Rules.{units_in}
 use Rattle.rules.proofs.Taken.{unit_bounds}
-use Rattle.modes.specs.Sessions.{Arrays, feed_number_within, feed_number, fed_text, session_text, session_register, session_runs}
+use Rattle.modes.specs.Sessions.{Arrays, feed_number_within, fed_text, session_text, session_register, session_runs}
 use Rattle.questions.specs.Questions.{ask, feed_questions, max_units}
 use Rattle.modes.specs.declared.session.Session.{Session}
 use Rattle.questions.proofs.QuestionLaws.{FeedTaken, feed_taken}

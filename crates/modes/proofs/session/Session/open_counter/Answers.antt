@@ -8,7 +8,6 @@ use Rattle.questions.specs.Questions.{iv_ok}
 use Rattle.questions.proofs.QuestionLaws.{opening_taken}
 use Rattle.modes.proofs.AnswerLaws.{opening-refused, opening-accepted}
 use Rattle.modes.proofs.WorkLaws.{start_window}
-use borrow.Author.Rules.{rules}
 use Rattle.bits.proofs.Owned.{arrays}
 use Rattle.modes.proofs.session.Session.open_counter.Goals as goal
 
