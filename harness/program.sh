@@ -36,7 +36,7 @@ progress() { # NAME COUNT
         case $line in
             'crate '*': modules '*) crate=${line#crate } crate=${crate%%:*} ;;
             'logic=proved '*) done=$((done + 1)) && echo "$name: $done of $count: $crate proved" ;;
-            'rt: chose '* | 'rt: running '*) ;;
+            'rt: chose '* | 'rt: running '* | 'rt: rt '*) ;;
             rt:*) echo "$name: ${line#rt: }" ;;
         esac
     done
