@@ -1,6 +1,6 @@
 // A line's command: found in the table with the form of its words (script/src/form.rt), then run.
 use crate::state::State;
-use crate::{archive, blocks, comparison, counters, feeds, sessions, texts};
+use crate::{archive, blocks, comparison, counters, feeding, sessions, texts};
 use script::{Words, output, read};
 use std::io;
 
@@ -42,14 +42,14 @@ fn run_command(
     match command {
         0 => sessions::open(words, space, text, state),
         1 => sessions::open_counter(words, space, text, state),
-        2 => feeds::feed(words, space, out, text, state),
+        2 => feeding::feed(words, space, out, text, state),
         3 => sessions::session(words, space, text, state),
         4 => sessions::show(text, state),
         5 => sessions::units(words, text, state),
         6 => sessions::carry(text, state),
         7 => comparison::keep(text, state),
         8 => comparison::alike(text, state),
-        9 => feeds::forecast(words, text, state),
+        9 => feeding::forecast(words, text, state),
         10 => counters::place(words, space, text, state),
         11 => texts::pad(words, space, out, text, state),
         12 => texts::unpad(words, space, text, state),

@@ -35,7 +35,7 @@ mod blocks;
 mod commands;
 mod comparison;
 mod counters;
-mod feeds;
+mod feeding;
 mod sessions;
 mod state;
 mod texts;
