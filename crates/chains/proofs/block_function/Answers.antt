@@ -1,6 +1,5 @@
 -- `chains::block_function` meets its contract: each arm calls the block function that the flag picks.
 -- Assumes nothing.
-use borrow.Author.Rules.{rules}
 use Rattle.chains.specs.Chains.{block_function}
 use Rattle.chains.proofs.block_function.Goals as goal
 

@@ -1,7 +1,6 @@
 -- `chains::chain` meets its contract. The loop's invariant: after i turns the block is the chain's after i
 -- applications. Assumes nothing.
-use Prim.Native.Nat.{◌≤◌, ◌-◌}
-use mathlib.Core.Path.{◌≡◌, refl, sym}
+use mathlib.Core.Path.{refl, sym}
 use native.Mathlib.Omega.{arith}
 use native.Mathlib.Numerals.{add-one}
 use Rattle.chains.specs.Chains.{chain_of}

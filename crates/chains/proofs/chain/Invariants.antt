@@ -1,9 +1,7 @@
 -- `chains::chain` meets its contract. The loop's invariant: after i turns the block is the chain's after i
 -- applications. Assumes nothing.
 use Prim.Native.Nat.{◌≤◌, ◌-◌}
-use mathlib.Core.Path.{◌≡◌, refl, sym}
-use native.Mathlib.Omega.{arith}
-use native.Mathlib.Numerals.{add-one}
+use mathlib.Core.Path.{◌≡◌}
 use Rattle.chains.specs.Chains.{chain_of}
 use Rattle.chains.proofs.chain.Given as goal
 

@@ -1,6 +1,5 @@
 -- `chains::conguraha_aes_chain` meets its contract: `chain` under what `expand` gave is the chain under the key.
 -- Assumes nothing.
-use borrow.Author.Rules.{rules}
 use Rattle.chains.specs.Chains.{chain_under}
 use Rattle.chains.proofs.conguraha_aes_chain.Goals as goal
 

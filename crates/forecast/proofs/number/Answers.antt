@@ -2,11 +2,10 @@
 use mathlib.Core.Path.{◌≡◌, refl, sym, ◌∙◌}
 use mathlib.Core.Bool.{true}
 use native.Mathlib.Omega.{arith}
-use borrow.Author.Tests.{not-true, not-false, le-leb, lt-leb}
+use borrow.Author.Tests.{le-leb, lt-leb}
 use Rattle.rules.specs.Lengths.{unit_length_ok}
 use Rattle.questions.specs.Questions.{ask, max_bits}
 use Rattle.forecast.specs.Costs.{forecast_questions, forecast_number}
-use borrow.Author.Rules.{rules}
 use Rattle.forecast.proofs.number.Goals as goal
 
 pub returns-then-not-unit_length_ok : goal.returns-then-not-unit_length_ok

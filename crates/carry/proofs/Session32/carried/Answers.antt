@@ -1,6 +1,5 @@
 -- Each part is the older session's. Assumes nothing.
 use mathlib.Core.Path.{◌≡◌, refl}
-use borrow.Author.Rules.{rules}
 use Rattle.carry.specs.declared.Session32.{Session32}
 use Rattle.carry.specs.Older.{carried}
 use Rattle.carry.proofs.Session32.carried.Goals as goal
