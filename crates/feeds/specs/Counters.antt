@@ -41,7 +41,8 @@ OpenedBlocksDiffer =
     (dir : Direction) (n m : ℕ) (key iv : List ℕ) (r : Opened) (before calls : List Call) (s end : Session) → Bytes key → Bytes iv
     → OpenedBy Ctr dir n m key iv r → r.number ≡ 0 → Feeds r.session before s → Feeds s calls end → OpenedOnce m r.session before s calls end
 
--- From an accepted opening, for each unit i that was done, block i is the T of `standard_at` for the opening's m and IV.
+-- From an accepted opening, for each unit i that was done, block i is the T of `standard_at` for the opening's m and
+-- IV.
 unfoldable pub OpenedBlocksCountUp : Type 0
 OpenedBlocksCountUp =
     (dir : Direction) (n m : ℕ) (key iv : List ℕ) (r : Opened) (calls : List Call) (end : Session) → Bytes key → Bytes iv

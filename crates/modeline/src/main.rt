@@ -4,37 +4,41 @@
 
 mod words;
 
-ghost use Rattle.std.specs.Prelude.{◌+◌, ◌≤◌, length, IfOk};
-ghost use Rattle.std.specs.Io.{ReadsAtMost};
+ghost use Rattle.std.specs.Prelude.{◌≡◌, ◌+◌, ◌≤◌, length, take};
 
 use lines::{MAX_INPUT, MAX_OUTPUT};
 use std::io;
 use std::io::{Read, Stderr, Stdin, Stdout, Write};
 
-// One read, after the `done` bytes that are there: how many it gave, 0 at the input's end.
-fn read_on(mut from: Stdin, input: &mut [u8], done: usize) -> io::Result<usize>
+// One read, after the `done` bytes that are there: how many it gave, 0 at the input's end, which a read that fails is
+// taken for.
+fn read_on(mut from: Stdin, input: &mut [u8], done: usize) -> usize
     requires { done ≤ length input.old }
-    ensures { IfOk result (λ n. done + n ≤ length input.new) }
+    ensures { done + result ≤ length input.new }
 {
-    from.read(&mut input[done..])
+    match from.read(&mut input[done..]) {
+        Ok(count) => count,
+        Err(_) => 0,
+    }
 }
 
 // Reads until the bytes that are there decide the answer (`EndDecides` of `lines`), the input ends or `input` is full.
-fn read_text(from: Stdin, input: &mut [u8]) -> io::Result<usize>
-    ensures { ReadsAtMost result input.new }
+fn read_text(from: Stdin, input: &mut [u8]) -> usize
+    ensures within { result ≤ length input.new }
+    ensures whole { result ≡ length (take result input.new) }
 {
     let mut done = 0;
     while done < input.len() {
-        let more = read_on(from, input, done)?;
+        let more = read_on(from, input, done);
         if more == 0 {
-            return Ok(done);
+            return done;
         }
         done += more;
         if grammar::reading_ends(&input[..done]) {
-            return Ok(done);
+            return done;
         }
     }
-    Ok(done)
+    done
 }
 
 // The digit of a line that is one digit and a line feed; 0 for any other.
@@ -45,14 +49,16 @@ fn single(line: &[u8]) -> u8 {
 // The answer, and why it is a refusal.
 fn print(mut to: Stdout, errors: Stderr, input: &[u8], line: &[u8]) -> io::Result<()> {
     to.write_all(line)?;
-    words::say_reason(errors, reasons::reason(input))?;
-    words::say_number(errors, single(line))
+    // Where standard error takes no words, the answer stands.
+    words::say_reason(errors, reasons::reason(input)).ok();
+    words::say_number(errors, single(line)).ok();
+    Ok(())
 }
 
 fn main(rt: HostRuntime) -> io::Result<()> {
     // A byte more than the longest text of the form: these bytes decide the answer (`FrontDecides` of `lines`).
     let mut input = [0u8; MAX_INPUT + 1];
-    let n = read_text(rt.stdin(), &mut input)?;
+    let n = read_text(rt.stdin(), &mut input);
     let mut out = [0u8; MAX_OUTPUT];
     let r = lines::answer(&input[..n], &mut out);
     print(rt.stdout(), rt.stderr(), &input[..n], &out[..r])

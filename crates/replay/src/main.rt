@@ -132,9 +132,12 @@ fn run_last(line: &mut [u8], text: &mut [u8; 65536], state: State) -> io::Result
     Ok(next.stopped())
 }
 
-// Reads once, and answers how many bytes came: 0 where the input has ended.
-fn read_part(mut from: Stdin, part: &mut [u8]) -> io::Result<usize> {
-    from.read(part)
+// Reads once, and answers how many bytes came: 0 where the input has ended, which a read that fails is taken for.
+fn read_part(mut from: Stdin, part: &mut [u8]) -> usize {
+    match from.read(part) {
+        Ok(count) => count,
+        Err(_) => 0,
+    }
 }
 
 // Runs the first `count` bytes of the part. With none, the input has ended.
@@ -162,7 +165,7 @@ fn run_all(
 ) -> io::Result<()> {
     let mut state = start;
     for _ in 0..u64::MAX {
-        let count = read_part(from, part)?;
+        let count = read_part(from, part);
         let next = run_first(part, count, line, text, state)?;
         if next.stop {
             return Ok(());

@@ -6,8 +6,8 @@ use std::io;
 use std::io::{Stderr, Stdout, Write};
 
 // `kept` is the session that `alike` compares with. `len` bytes of the present line are gathered, and `end` bytes of
-// output wait to be written to `to`; `errors` takes the numbers of bad lines. `ended` lines have ended. `stop` says that
-// the input has.
+// output wait to be written to `to`; `errors` takes the numbers of bad lines. `ended` lines have ended. `stop` says
+// that the input has.
 #[derive(Drop)]
 pub struct State {
     pub to: Stdout,
@@ -65,7 +65,8 @@ impl State {
     pub fn bad(self, text: &mut [u8; 65536]) -> io::Result<State> {
         let mut errors = self.errors;
         let ended = self.ended;
-        writeln!(errors, "replay: line {ended}: of no command's form")?;
+        // Where standard error takes no words, the answer stands.
+        writeln!(errors, "replay: line {ended}: of no command's form").ok();
         let end = print::bad(self.to, text, self.end)?;
         Ok(self.with_end(end))
     }

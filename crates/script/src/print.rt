@@ -1,5 +1,5 @@
-// Output is gathered in a text of 65,536 bytes, of which the first `end` wait to be written to `to`. Each function gives
-// the next `end`, or the error of a write that failed.
+// Output is gathered in a text of 65,536 bytes, of which the first `end` wait to be written to `to`. Each function
+// gives the next `end`, or the error of a write that failed.
 use crate::parts::first;
 use itoa::Buffer;
 use std::io;

@@ -13,23 +13,16 @@ returns-then-not-bits_ok c = rw (sym c.bits_ok.ensures ∙ c.if-not-bits_ok.true
 pub returns-then-not-message_ok : goal.returns-then-not-message_ok
 unfolding message_questions ask
 returns-then-not-message_ok c =
-    let yes6 : bits_ok max_bits c.args.bytes c.args.bits ≡ true = sym c.bits_ok.ensures ∙ c.if-not-bits_ok.false in
-    rw (yes6, sym c.message_ok.ensures ∙ c.if-not-message_ok.true) refl
+    rw (sym c.bits_ok.ensures ∙ c.if-not-bits_ok.false, sym c.message_ok.ensures ∙ c.if-not-message_ok.true) refl
 
 pub returns-then-not-room_ok : goal.returns-then-not-room_ok
 unfolding message_questions ask
 returns-then-not-room_ok c =
-    let yes6 : bits_ok max_bits c.args.bytes c.args.bits ≡ true = sym c.bits_ok.ensures ∙ c.if-not-bits_ok.false in
-    let yes13 : message_ok c.args.bits ≡ true = sym c.message_ok.ensures ∙ c.if-not-message_ok.false in
-    let room : let a = c.args in c.room_ok.result ≡ room_ok a.size a.place (bytes_for a.bits) = c.room_ok.ensures ∙ ap (room_ok _ _) c.bytes_for.ensures in
-    let t = c in
-    rw (yes6, yes13, sym room ∙ c.if-not-room_ok.true) refl
+    let room = c.room_ok.ensures ∙ ap (room_ok _ _) c.bytes_for.ensures in
+    rw (sym c.bits_ok.ensures ∙ c.if-not-bits_ok.false, sym c.message_ok.ensures ∙ c.if-not-message_ok.false, sym room ∙ c.if-not-room_ok.true) refl
 
 pub returns : goal.returns
 unfolding message_questions ask
 returns c =
-    let yes6 : bits_ok max_bits c.args.bytes c.args.bits ≡ true = sym c.bits_ok.ensures ∙ c.if-not-bits_ok.false in
-    let yes13 : message_ok c.args.bits ≡ true = sym c.message_ok.ensures ∙ c.if-not-message_ok.false in
-    let room : let a = c.args in c.room_ok.result ≡ room_ok a.size a.place (bytes_for a.bits) = c.room_ok.ensures ∙ ap (room_ok _ _) c.bytes_for.ensures in
-    let t = c in
-    rw (yes6, yes13, sym room ∙ c.if-not-room_ok.false) refl
+    let room = c.room_ok.ensures ∙ ap (room_ok _ _) c.bytes_for.ensures in
+    rw (sym c.bits_ok.ensures ∙ c.if-not-bits_ok.false, sym c.message_ok.ensures ∙ c.if-not-message_ok.false, sym room ∙ c.if-not-room_ok.false) refl
