@@ -4,8 +4,7 @@ use mathlib.Core.Path.{◌≡◌, refl}
 use mathlib.Core.Bool.{Bool, true, false, cond}
 use mathlib.Core.List.{List}
 use lib.Dec.{eqb}
-use lib.ListN.{length}
-use Rattle.calls.specs.Calls.{Calls, empty, call}
+use Rattle.calls.specs.Calls.{empty, call}
 use Rattle.rules.specs.declared.Direction.TheVariants.{Decrypt}
 use Rattle.rules.specs.Numbers.{modes, mode_of, direction_of}
 use Rattle.modes.specs.declared.session.Session.{Session}
@@ -22,7 +21,7 @@ use Rattle.held.specs.Calls.{open_held_number, HeldOpenedBy, feed_held_number, H
 use Rattle.held.specs.Promises.{HeldMode, opened_of, fed_of, OpenedFromC, FedFromC}
 use Rattle.held.proofs.Laws.{held_mode, mode_accepted}
 use Rattle.held.proofs.CallLaws.{opened_from_c, fed_from_c}
-use Rattle.conguraha.specs.Promises.{HeldCarried, session32_of, HeldCall, HeldFeed, held_fed, HeldFeeds, call_of, calls_of, FeedsFromC, DemandTwoFromC, DemandThreeFromC}
+use Rattle.conguraha.specs.Promises.{HeldCarried, session32_of, HeldCall, held_fed, HeldFeeds, call_of, calls_of, FeedsFromC, DemandTwoFromC, DemandThreeFromC}
 
 pub held_carried : HeldCarried
 unfolding HeldCarried session_of carried_held carried session32_of

@@ -2,7 +2,6 @@
 -- asked (`AnswerLaws`). Assumes nothing.
 use mathlib.Core.Path.{refl}
 use native.Mathlib.Omega.{arith}
-use borrow.Author.Rules.{rules}
 use Rattle.conguraha.proofs.AnswerLaws.{not-forecast, forecast-held}
 use Rattle.conguraha.proofs.counters.conguraha1_forecast.Goals as goal
 

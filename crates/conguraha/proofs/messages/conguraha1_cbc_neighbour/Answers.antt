@@ -4,10 +4,9 @@ use Prim.Native.Nat.{suc, ◌*◌, ◌≤◌}
 use mathlib.Core.Path.{refl, sym, ◌∙◌}
 use lib.ListN.{length}
 use native.Mathlib.Omega.{arith}
-use borrow.Author.Rules.{rules}
 use Rattle.single.proofs.NumberLaws.{neighbour_taken, block_there}
 use Rattle.conguraha.specs.Answers.{offset_of}
-use Rattle.conguraha.proofs.AnswerLaws.{no-neighbour, a-neighbour}
+use Rattle.conguraha.proofs.AnswerLaws.{a-neighbour}
 use Rattle.conguraha.proofs.messages.conguraha1_cbc_neighbour.Goals as goal
 
 -- past the questions block j is there

@@ -2,7 +2,6 @@
 -- (`AnswerLaws`). Assumes nothing.
 use mathlib.Core.Path.{refl, ap, ◌∙◌}
 use native.Mathlib.Omega.{arith}
-use borrow.Author.Rules.{rules}
 use borrow.Author.Tests.{le-ltb}
 use Rattle.held.specs.Held.{flag_of}
 use Rattle.conguraha.specs.Sessions.{alike_held}
