@@ -47,6 +47,7 @@ build() { # NAME COMMAND FILE COPY
     local name=$1 command=$2 file=crates/$1/out/$3 copy=$4 log=target/$1.log start=target/$1.start
     mkdir -p "$(dirname "$copy")"
     touch "$start"
+    sleep 0.02 # dates have steps of some milliseconds: what is changed from here on has a later one
     (cd "crates/$name" && rt "$command") </dev/null 2>&1 | tee "$log" |
         progress "$name" "$(needed_crates "$name" | wc -l)" || { cat "$log"; return 1; }
     [ -s "$file" ] || { echo "rt $command has built no $file"; return 1; }
