@@ -1,9 +1,7 @@
 -- `stealing::message::message_number` meets its contract: each test is a question's. Assumes nothing.
-use mathlib.Core.Path.{◌≡◌, refl, sym, ap, ◌∙◌}
-use mathlib.Core.Bool.{true}
-use Rattle.bits.specs.Texts.{bytes_for}
-use Rattle.questions.specs.Questions.{ask, max_bits, bits_ok, room_ok}
-use Rattle.stealing.specs.Calls.{message_ok, message_questions}
+use mathlib.Core.Path.{refl, sym, ap, ◌∙◌}
+use Rattle.questions.specs.Questions.{ask, room_ok}
+use Rattle.stealing.specs.Calls.{message_questions}
 use Rattle.stealing.proofs.message.message_number.Goals as goal
 
 pub returns-then-not-bits_ok : goal.returns-then-not-bits_ok

@@ -13,12 +13,20 @@ use Rattle.modes.proofs.AnswerLaws.{part_written}
 use Rattle.modes.proofs.WorkLaws.{part_all}
 use Rattle.modes.proofs.OpeningLaws.{opened-session, opened-ready}
 use Rattle.stolen.specs.Stealing.{stolen_text}
+use Rattle.questions.specs.Questions.{ask}
 use Rattle.questions.proofs.QuestionLaws.{opening_taken}
+use Rattle.stealing.specs.Calls.{message_questions}
 use Rattle.stealing.proofs.KeyLaws.{Keyed, keyed, stolen-bytes}
 use Rattle.stealing.proofs.NumberLaws.{opening-no, opening-yes, MessageTaken, message_taken}
 use Rattle.stealing.proofs.AnswerLaws.{steal-refused, steal-accepted}
 use Rattle.bits.proofs.Owned.{arrays}
 use Rattle.stealing.proofs.message.work.Goals as goal
+
+-- what a message's number 0 grants: the answers 'yes' to
+-- the questions of its bits, its length and its room
+granted : (bytes bits size place : ℕ) {number : ℕ} → number ≡ ask (message_questions bytes bits size place) → number ≡ 0
+    → MessageTaken bytes bits size place
+granted bytes bits size place asked zero = message_taken bytes bits size place (sym asked ∙ zero)
 
 pub returns-then-opened-ne0 : goal.returns-then-opened-ne0
 returns-then-opened-ne0 c =
@@ -34,14 +42,10 @@ returns-then-number-ne0 c =
     (c.message_number-number.ensures ∙ sym (opening-yes a.key.now a.iv.now (length a.input.now) a.bits (length a.out.now) a.place (sym c.open-opened.ensures.answer ∙ opened))) c.if-number-ne0.true
 
 pub slice_bounds-put_message-count : goal.slice_bounds-put_message-count
-slice_bounds-put_message-count c =
-    let granted : let a = c.args in MessageTaken (length a.input.now) a.bits (length a.out.now) a.place = message_taken _ _ _ _ (sym c.message_number-number.ensures ∙ c.if-number-ne0.false) in
-    granted.inside
+slice_bounds-put_message-count c = (granted _ _ _ _ c.message_number-number.ensures c.if-number-ne0.false).inside
 
 pub slice_bounds-put_message-start : goal.slice_bounds-put_message-start
-slice_bounds-put_message-start c =
-    let granted : let a = c.args in MessageTaken (length a.input.now) a.bits (length a.out.now) a.place = message_taken _ _ _ _ (sym c.message_number-number.ensures ∙ c.if-number-ne0.false) in
-    granted.inside
+slice_bounds-put_message-start c = (granted _ _ _ _ c.message_number-number.ensures c.if-number-ne0.false).inside
 
 pub put_message-requires : goal.put_message-requires
 unfolding opened_session
@@ -49,8 +53,9 @@ put_message-requires c =
     let opened : c.open-opened.result.number ≡ 0 = c.if-opened-ne0.false in
     let key_bytes : Bytes c.args.key.now = search arrays in
     let iv_bytes : Bytes c.args.iv.now = search arrays in
-    let granted : let a = c.args in MessageTaken (length a.input.now) a.bits (length a.out.now) a.place = message_taken _ _ _ _ (sym c.message_number-number.ensures ∙ c.if-number-ne0.false) in
-    let q = granted in
+    let q : MessageTaken (length c.args.input.now) c.args.bits (length c.args.out.now) c.args.place =
+    granted _ _ _ _ c.message_number-number.ensures c.if-number-ne0.false
+    in
     rw (opened-session c.open-opened.ensures opened)
     (record {
       mode = refl;
@@ -71,7 +76,7 @@ unfolding opened_session start encrypted decrypted open_number
 returns c =
     let opened : c.open-opened.result.number ≡ 0 = c.if-opened-ne0.false in
     let a = c.args in
-    let q = message_taken _ _ _ _ (sym c.message_number-number.ensures ∙ c.if-number-ne0.false) in
+    let q = granted (length a.input.now) a.bits (length a.out.now) a.place c.message_number-number.ensures c.if-number-ne0.false in
     let taken = opening_taken Cbc 128 128 a.key.now a.iv.now (sym c.open-opened.ensures.answer ∙ opened) in
     let under : Keyed a.key.now a.iv.now = keyed (search arrays) (search arrays) taken.key_size taken.iv_size in
     let text = stolen_text (encrypted a.key.now) (decrypted a.key.now) a.direction a.iv.now (fed_text a.input.now a.bits) in
