@@ -57,7 +57,7 @@ def commands(path: pathlib.Path) -> Iterator[Command]:
             raise ValueError(f"{path.name}:{index + 1}: an answer with no command before it")
 
 
-# ---- a command's words, by the letters of crates/script/src/kinds.rt
+# ---- a command's words, by the letters of KINDS, below
 
 MAX_TEXT = 65600
 MAX_LINE = 2 * MAX_TEXT + 1920

@@ -47,8 +47,8 @@ const FORMS: &[(&str, &str)] = &[
     ("decrypt * *", "BYTES BLOCK"),
 ];
 
-// The program's sources: the table of its commands, and the lines of its head that begin with a command.
-const TABLE: &str = "crates/replay/src/commands.rt";
+// The program's sources: the `match` that finds a command by its name, and the lines of its head that begin with one.
+const ARMS: &str = "crates/replay/src/commands.rt";
 const HEAD: &str = "crates/replay/src/main.rt";
 const HEAD_LINE: &str = "//     ";
 
@@ -66,18 +66,25 @@ fn source(path: &str) -> Result<String, String> {
     std::fs::read_to_string(path).map_err(|why| format!("{path}: {why}"))
 }
 
-// Names and forms take turns in the table, which is the one byte string of its file.
+// The name in an arm of the `match`, as in `b"show" => self.show(words),`.
+fn arm_name(line: &str) -> Option<String> {
+    let (name, _) = line
+        .trim_start()
+        .strip_prefix("b\"")?
+        .split_once("\" => ")?;
+    Some(name.to_string())
+}
+
 fn same_commands() -> Outcome {
-    let (code, head) = (source(TABLE)?, source(HEAD)?);
-    let table = code.split('"').nth(1).unwrap_or("").replace('\\', "");
-    let in_table = table.split_whitespace().step_by(2).map(str::to_string);
+    let (code, head) = (source(ARMS)?, source(HEAD)?);
+    let in_arms = code.lines().filter_map(arm_name);
     let in_head = head.lines().filter_map(|line| line.strip_prefix(HEAD_LINE));
     let in_head = in_head.map(|line| name_of(line).to_string());
     let in_forms = FORMS.iter().map(|form| name_of(form.0).to_string());
     let mut expected: Vec<String> = answers::names().iter().map(|n| n.to_string()).collect();
     expected.sort();
     for (place, names) in [
-        (TABLE, in_table.collect::<Vec<_>>()),
+        (ARMS, in_arms.collect::<Vec<_>>()),
         (HEAD, in_head.collect()),
         ("FORMS", in_forms.collect()),
     ] {

@@ -5,13 +5,14 @@ use mathlib.Core.List.{List}
 use mathlib.Core.Logic.{inl, inr, ◌↔◌}
 use Prim.Native.Nat.{ℕ, ◌+◌, ◌/◌}
 use lib.ListN.{length, replicate}
+use Rattle.std.specs.Prelude.{Result, Ok, Err, IsErr}
 use Rattle.bits.specs.Blocks.{Bytes}
 use Rattle.cipher.specs.Cipher.{rounds_ok}
 use Rattle.cipher.specs.Promises.{UndoEachOther}
 use Rattle.bits.proofs.TestLaws.{passed}
 use Rattle.cipher.proofs.CipherLaws.{enc_refused, dec_refused, undo_each_other}
 use Rattle.expansion.specs.KeyExpansion.{rounds_for, round_keys}
-use Rattle.aes.specs.Calls.{key_ok, key_number, key_rounds, key_bytes, encrypted, decrypted, Expanded}
+use Rattle.aes.specs.Calls.{key_ok, key_number, key_rounds, key_bytes, bad_key, encrypted, decrypted, number_in, block_in, Expanded, BlockAnswer}
 use Rattle.aes.specs.Promises.{AcceptedExpands, KeyGivesCipher, KeyLength, CallsAnswer}
 use Rattle.expansion.proofs.Filled.{zeros_bytes}
 use Rattle.expansion.proofs.KeyLaws.{key_words, round_keys_bytes, round_keys-length}
@@ -93,13 +94,18 @@ module _ (key : List ℕ) where
   refused-zeros : {number : ℕ} → number ≡ key_number key → number ≡ 1 → Expanded key 1 0 (replicate 240 0)
   refused-zeros answer e = key_refused (number-one (sym answer ∙ e))
 
-  enc-zeros : (block : List ℕ) → 0 ≡ key_rounds key → encrypted key block ≡ replicate 16 0
+  pub enc-zeros : (block : List ℕ) → 0 ≡ key_rounds key → encrypted key block ≡ replicate 16 0
   unfolding encrypted rounds_ok
   enc-zeros block e = enc_refused (key_rounds key) (key_bytes key) block (ap rounds_ok (sym e))
 
-  dec-zeros : (block : List ℕ) → 0 ≡ key_rounds key → decrypted key block ≡ replicate 16 0
+  pub dec-zeros : (block : List ℕ) → 0 ≡ key_rounds key → decrypted key block ≡ replicate 16 0
   unfolding decrypted rounds_ok
   dec-zeros block e = dec_refused (key_rounds key) (key_bytes key) block (ap rounds_ok (sym e))
+
+-- An error answers the number of question 1 and a zero block.
+pub err_answer : {E : Type 0} {key result : List ℕ} (r : Result (List ℕ) E) → IsErr r → bad_key ≡ key_number key → result ≡ replicate 16 0 → BlockAnswer key result (number_in r) (block_in r)
+err_answer (Ok block) e n z = cc
+err_answer (Err _) e n z = record { answer = n; answer_block = sym z }
 
 -- ---- the promises
 

@@ -1,8 +1,9 @@
 -- What the public calls answer (document 01, "The block cipher" and question 1).
-use Rattle.std.specs.Prelude.{ℕ, ◌/◌, ◌≡◌, cond, List, length, replicate}
+use Rattle.std.specs.Prelude.{ℕ, ◌/◌, ◌≡◌, cond, List, length, replicate, Result, Ok, Err}
 use Rattle.cipher.specs.Cipher.{Enc, Dec}
 use Rattle.expansion.specs.KeyExpansion.{rounds_for, round_keys}
 unfoldable pub use Rattle.expansion.specs.KeyExpansion.{key_ok}
+use Rattle.aes.specs.declared.calls.Schedule.{Schedule}
 
 -- The number of question 1.
 abbrev pub bad_key : ℕ
@@ -25,6 +26,23 @@ encrypted key block = Enc (key_rounds key) (key_bytes key) block
 
 unfoldable pub decrypted : List ℕ → List ℕ → List ℕ
 decrypted key block = Dec (key_rounds key) (key_bytes key) block
+
+-- The paper's number and values of what a call answers.
+abbrev pub number_in : {A E : Type 0} → Result A E → ℕ
+number_in (Ok _) = 0
+number_in (Err _) = bad_key
+
+abbrev pub rounds_in : {E : Type 0} → Result Schedule E → ℕ
+rounds_in (Ok schedule) = schedule.rounds
+rounds_in (Err _) = 0
+
+abbrev pub keys_in : {E : Type 0} → Result Schedule E → List ℕ
+keys_in (Ok schedule) = schedule.keys
+keys_in (Err _) = replicate 240 0
+
+abbrev pub block_in : {E : Type 0} → Result (List ℕ) E → List ℕ
+block_in (Ok block) = block
+block_in (Err _) = replicate 16 0
 
 -- What `expand` answers, and the one-block calls.
 pub record Expanded (key : List ℕ) (number rounds : ℕ) (keys : List ℕ) : Type 0 where

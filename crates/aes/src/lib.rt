@@ -3,4 +3,4 @@
 
 mod calls;
 
-pub use calls::{Answer, Schedule, decrypt, encrypt, expand, key_ok};
+pub use calls::{KeyLength, Schedule, decrypt, encrypt, expand, key_ok};

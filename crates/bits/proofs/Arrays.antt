@@ -1,5 +1,5 @@
 -- What owning an array of bytes shows: each of its numbers is a byte. `search array_bytes` finds the rest in what a
--- need is handed. Assumes nothing.
+-- goal is handed. Assumes nothing.
 use mathlib.Core.List.{List, map}
 use Prim.Native.Nat.{ℕ}
 use mir.Syntax.{w8}

@@ -6,7 +6,7 @@ use Prim.Native.Nat.{ℕ, zero, suc, ◌+◌, ◌≤◌, ◌<◌}
 use native.Mathlib.Nat.{zero-add, le_of_eq, le_of_suc-le-suc, not-suc-le-zero}
 use native.Mathlib.Numerals.{add-one}
 use native.Mathlib.Omega.{arith}
-use lib.ListN.{length, get_or, take, drop, set, length-append, length-drop, drop_of_length-le}
+use lib.ListN.{length, get_or, take, drop, set, length-append, drop_of_length-le}
 use lib.Seq.{take_all, take_at, paste, paste-suc}
 use Rattle.bits.specs.Xor.{xor, xor_bytes}
 
@@ -16,12 +16,11 @@ pub pasted_next : (d : List ℕ) (at : ℕ) (t : List ℕ) (i : ℕ) {l : List �
 pasted_next d at t i e f hd ht =
     ap₂ (λ (m : List ℕ) (w : ℕ). set m (at + i) w) e f ∙ paste-suc d at t i 0 hd ht ∙ ap (paste d at t) (sym (add-one i))
 
--- two lists one after the other fill a list that has just enough room
-pub pasted_both : (k : ℕ) (d a b : List ℕ) → length d ≡ k + k → length a ≡ k → length b ≡ k → paste (paste d 0 a k) k b k ≡ a ++ b
-pasted_both k d a b hd ha hb =
-    let front : paste d 0 a k ≡ a ++ drop k d = rw (zero-add, take_all k a (le_of_eq ha)) in
-    let full : length (a ++ drop k d) ≤ k + k = simp (length-append, length-drop) (omega arith) in
-    rw (front, take_at a (drop k d) k ha, take_all k b (le_of_eq hb), drop_of_length-le (a ++ drop k d) {i = k + k} full, append-nil)
+-- a list written after another of its length, to the end
+pub pasted_after : (a z b : List ℕ) {k : ℕ} → length a ≡ k → length z ≡ k → length b ≡ k → paste (a ++ z) k b k ≡ a ++ b
+pasted_after a z b {k} ha hz hb =
+    let full : length (a ++ z) ≤ k + k = simp length-append (omega arith) in
+    rw (take_at a z k ha, take_all k b (le_of_eq hb), drop_of_length-le (a ++ z) {i = k + k} full, append-nil)
 
 -- ---- from the front
 

@@ -12,5 +12,6 @@ pub mod Owned
 pub mod Windows
 pub mod Packed
 pub mod Fills
+pub mod Made
 pub mod Registers
 pub mod Places

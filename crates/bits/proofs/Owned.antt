@@ -1,5 +1,5 @@
 -- What owning an array of bytes shows, as facts on blocks: `search arrays` finds `Bytes` or `Block` of an array, a
--- parameter, a call's result or a struct's field, in what a need is handed. Assumes nothing.
+-- parameter, a call's result or a struct's field, in what a goal is handed. Assumes nothing.
 use mathlib.Core.Path.{◌≡◌}
 use mathlib.Core.List.{List, map}
 use Prim.Native.Nat.{ℕ}

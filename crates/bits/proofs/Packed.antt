@@ -6,11 +6,10 @@ use Prim.Native.Nat.{ℕ, zero, suc, ◌+◌, ◌-◌, ◌*◌, ◌/◌, ◌%◌
 use native.Mathlib.Nat.{le_refl, zero-add, suc-add, not-suc-le-zero, le_of_suc-le-suc}
 use native.Mathlib.Omega.{arith}
 use lib.Dec.{lit≤}
-use lib.ListN.{length, get_or, take, drop, set, replicate, length-take, length-drop, drop_of_length-le}
-use lib.Seq.{length-take-le, take-nil, take-take, drop-drop}
-use Rattle.bits.specs.Texts.{bits, digit, byte_of, pack_to}
-use Rattle.bits.specs.Blocks.{Bytes}
-use Rattle.bits.proofs.Texts.{take-bits, drop_bits, drop_bytes, byte_of_take, take_bytes, pack_to-bits}
+use lib.ListN.{get_or, take, drop, set, replicate, length-take, drop_of_length-le}
+use lib.Seq.{take-nil, take-take, drop-drop}
+use Rattle.bits.specs.Texts.{digit, byte_of, pack_to}
+use Rattle.bits.proofs.Texts.{byte_of_take}
 use Rattle.bits.proofs.Windows.{keep}
 
 pub get_or-pack_to : (k : ℕ) (x : List Bool) (i : ℕ) → i < k → get_or (pack_to k x) i 0 ≡ byte_of (drop (i * 8) x)
@@ -50,15 +49,6 @@ pack_to-cut (suc k) m x h =
     let e : m ≡ 8 + (m - 8) = omega arith in
     ap₂ (λ (b : ℕ) (bs : List ℕ). b ∷ bs) (byte_of_cut m x (omega arith))
     (ap (λ (n : ℕ). pack_to k (drop 8 (take n x))) e ∙ rw drop-take (pack_to-cut k (m - 8) (drop 8 x) (omega arith)))
-
--- whole bytes
-pack_to_front : (k : ℕ) (s : List ℕ) → Bytes s → k ≤ length s → pack_to k (bits s) ≡ take k s
-pack_to_front k s h l =
-    sym (pack_to-cut k (k * 8) (bits s) (le_refl (k * 8)))
-    ∙ rw take-bits (rw (length-take-le k s l) at (pack_to-bits (take k s) (take_bytes k h)))
-
-pub pack_to-at : (k first : ℕ) (s : List ℕ) → Bytes s → first + k ≤ length s → pack_to k (drop (first * 8) (bits s)) ≡ take k (drop first s)
-pack_to-at k first s h l = rw drop_bits (pack_to_front k (drop first s) (drop_bytes first h) (simp length-drop (omega arith)))
 
 -- ---- a store
 

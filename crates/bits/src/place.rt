@@ -14,55 +14,31 @@ pub fn put_bits(out: &mut [u8], at: usize, segment: [u8; 16], n: usize)
 {
     let first = at / 8;
     let r = at % 8;
-    if n == 128 {
-        if r == 0 {
-            put_block(out, first, segment);
-            return;
-        }
+    if n == 128 && r == 0 {
+        out[first..first + 16].copy_from_slice(&segment);
+        return;
     }
     let end = r + n;
     let whole = end / 8;
-    let high = put_bytes(out, first, r as u32, segment, whole);
+    let high = put_bytes(out, first, r, segment, whole);
     let used = end % 8;
     if used != 0 {
-        let byte = two_bytes(high, byte_at(&segment, whole), 8 - r as u32);
-        put_part(&mut out[first + whole], byte, used as u32);
-    }
-}
-
-pub fn put_block(out: &mut [u8], first: usize, block: [u8; 16])
-    requires { first + 16 ≤ length out.old }
-    ensures { out.new ≡ paste out.old first block 16 }
-{
-    let mut i = 0;
-    while i < 16 {
-        out[first + i] = block[i];
-        i += 1;
+        let byte = two_bytes(high, byte_at(&segment, whole), 8 - r);
+        out[first + whole] = first_bits(byte, used);
     }
 }
 
 // Whole bytes from `first` on: the first r bits there stay; the segment follows. Gives the byte in which the next one
 // would begin.
-fn put_bytes(out: &mut [u8], first: usize, r: u32, segment: [u8; 16], count: usize) -> u8
-    requires { (r < 8) × (first + count ≤ length out.old) }
+fn put_bytes(out: &mut [u8], first: usize, r: usize, segment: [u8; 16], count: usize) -> u8
+    requires { (r < 8) × (count ≤ 16) × (first + count ≤ length out.old) }
     ensures written { out.new ≡ paste out.old first (pack_to count (take r (bits (drop first out.old)) ++ bits segment)) count }
     ensures high { result ≡ get_or (get_or out.old first 0 / 2 ^ (8 - r) ∷ segment) count 0 }
 {
     let mut high = two_bytes(0, byte_at(out, first), r);
-    let mut i = 0;
-    while i < count {
-        let low = byte_at(&segment, i);
-        out[first + i] = two_bytes(high, low, 8 - r);
-        high = low;
-        i += 1;
+    for (i, low) in segment[..count].iter().enumerate() {
+        out[first + i] = two_bytes(high, *low, 8 - r);
+        high = *low;
     }
     high
-}
-
-// A byte whose first k bits are the text's last ones: its other bits become 0.
-fn put_part(place: &mut u8, byte: u8, k: u32)
-    requires { k < 8 }
-    ensures { place.new ≡ byte / 2 ^ (8 - k) * 2 ^ (8 - k) }
-{
-    *place = first_bits(byte, k);
 }

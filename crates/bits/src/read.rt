@@ -1,14 +1,15 @@
 // Bits read from a slice. Bits past its end are 0.
-ghost use Rattle.std.specs.Prelude.{◌≡◌, ◌+◌, ◌*◌, ◌≤◌, ◌<◌, length, get_or, take, drop};
+ghost use Rattle.std.specs.Prelude.{◌≡◌, ◌+◌, ◌*◌, ◌≤◌, ◌<◌, get_or, take, drop};
 ghost use Rattle.bits.specs.Texts.{bits, pack_to};
 
 use crate::shift::{first_bits, two_bytes};
+use std::array;
 
 // Byte k, or 0 past the end.
 pub fn byte_at(s: &[u8], k: usize) -> u8
     ensures { result ≡ get_or s.now k 0 }
 {
-    if k < s.len() { s[k] } else { 0 }
+    s.get(k).copied().unwrap_or(0)
 }
 
 // The n bits from bit `offset` on, at most 128, from the left of the result on.
@@ -26,11 +27,11 @@ fn part_of_block(s: &[u8], offset: usize, n: usize) -> [u8; 16]
     requires { n < 128 }
     ensures { result ≡ pack_to 16 (take n (drop offset (bits s.now))) }
 {
-    let mut out = bytes_from(s, offset, (n + 7) / 8);
+    let mut out = bytes_from(s, offset, n.div_ceil(8));
     let used = n % 8;
     if used != 0 {
         let last = n / 8;
-        out[last] = first_bits(out[last], used as u32);
+        out[last] = first_bits(out[last], used);
     }
     out
 }
@@ -40,25 +41,10 @@ fn whole_block(s: &[u8], offset: usize) -> [u8; 16]
     ensures { result ≡ pack_to 16 (drop offset (bits s.now)) }
 {
     let first = offset / 8;
-    if offset % 8 == 0 {
-        if first + 16 <= s.len() {
-            return block_at(s, first);
-        }
+    if offset % 8 == 0 && first + 16 <= s.len() {
+        return array::from_fn(|i| s[first + i]);
     }
     bytes_from(s, offset, 16)
-}
-
-fn block_at(s: &[u8], first: usize) -> [u8; 16]
-    requires { first + 16 ≤ length s.now }
-    ensures { result ≡ take 16 (drop first s.now) }
-{
-    let mut out = [0u8; 16];
-    let mut i = 0;
-    while i < 16 {
-        out[i] = s[first + i];
-        i += 1;
-    }
-    out
 }
 
 // `count` whole bytes from bit `offset` on, then bytes 0.
@@ -68,14 +54,12 @@ fn bytes_from(s: &[u8], offset: usize, count: usize) -> [u8; 16]
 {
     let mut out = [0u8; 16];
     let first = offset / 8;
-    let r = (offset % 8) as u32;
+    let r = offset % 8;
     let mut high = byte_at(s, first);
-    let mut i = 0;
-    while i < count {
+    for i in 0..count {
         let low = byte_at(s, first + i + 1);
         out[i] = two_bytes(high, low, r);
         high = low;
-        i += 1;
     }
     out
 }

@@ -2,7 +2,6 @@
 ghost use Rattle.std.specs.Prelude.{◌≡◌, ◌++◌, take, drop};
 ghost use Rattle.bits.specs.Texts.{bits, pack_to};
 
-use crate::place::put_block;
 use crate::shift::two_bytes;
 
 // The register's first n bits leave, and the segment's first n bits enter at the end.
@@ -14,12 +13,11 @@ pub fn shift_in(register: [u8; 16], segment: [u8; 16], n: usize) -> [u8; 16]
     }
     let both = join(register, segment);
     let first = n / 8;
-    let r = (n % 8) as u32;
+    let r = n % 8;
     let mut out = [0u8; 16];
-    let mut i = 0;
-    while i < 16 {
+    // By index: of array::from_fn LLVM makes half as many instructions more.
+    for i in 0..16 {
         out[i] = two_bytes(both[first + i], both[first + i + 1], r);
-        i += 1;
     }
     out
 }
@@ -28,7 +26,7 @@ fn join(a: [u8; 16], b: [u8; 16]) -> [u8; 32]
     ensures { result ≡ a ++ b }
 {
     let mut both = [0u8; 32];
-    put_block(&mut both, 0, a);
-    put_block(&mut both, 16, b);
+    both[..16].copy_from_slice(&a);
+    both[16..].copy_from_slice(&b);
     both
 }

@@ -17,26 +17,11 @@ const SECOND: [u8; 16] = [
 
 const LENGTHS: [usize; 9] = [0, 1, 3, 7, 8, 9, 127, 128, 200];
 
-fn print_byte(mut out: Stdout, b: u8) -> io::Result<()> {
-    write!(out, "{b:02x}")
-}
-
-fn print_bytes(out: Stdout, bytes: &[u8]) -> io::Result<()> {
-    let mut i = 0;
-    while i < bytes.len() {
-        print_byte(out, bytes[i])?;
-        i += 1;
+fn show(mut out: Stdout, bytes: &[u8]) -> io::Result<()> {
+    for b in bytes {
+        write!(out, "{b:02x}")?;
     }
-    Ok(())
-}
-
-fn end_line(mut out: Stdout) -> io::Result<()> {
     out.write_all(b"\n")
-}
-
-fn show(out: Stdout, bytes: &[u8]) -> io::Result<()> {
-    print_bytes(out, bytes)?;
-    end_line(out)
 }
 
 fn show_window(out: Stdout, s: &[u8], offset: usize, n: usize) -> io::Result<()> {
@@ -44,12 +29,10 @@ fn show_window(out: Stdout, s: &[u8], offset: usize, n: usize) -> io::Result<()>
 }
 
 fn show_windows(out: Stdout, s: &[u8], n: usize) -> io::Result<()> {
-    let mut offset: usize = 0;
-    while offset < 10 {
+    for offset in 0..10 {
         show_window(out, s, offset, n)?;
-        offset += 1;
     }
-    show_window(out, s, 18446744073709551615, n)
+    show_window(out, s, usize::MAX, n)
 }
 
 fn show_put(out: Stdout, at: usize, n: usize) -> io::Result<()>
@@ -63,10 +46,8 @@ fn show_put(out: Stdout, at: usize, n: usize) -> io::Result<()>
 fn show_puts(out: Stdout, n: usize) -> io::Result<()>
     requires { n ≤ 128 }
 {
-    let mut at: usize = 0;
-    while at < 10 {
+    for at in 0..10 {
         show_put(out, at, n)?;
-        at += 1;
     }
     Ok(())
 }
@@ -79,10 +60,8 @@ fn show_length(out: Stdout, n: usize) -> io::Result<()> {
 }
 
 fn show_lengths(out: Stdout) -> io::Result<()> {
-    let mut k = 0;
-    while k < 9 {
-        show_length(out, LENGTHS[k])?;
-        k += 1;
+    for n in LENGTHS {
+        show_length(out, n)?;
     }
     Ok(())
 }
@@ -100,10 +79,8 @@ fn show_increments(out: Stdout, m: usize) -> io::Result<()> {
 }
 
 fn show_counters(out: Stdout) -> io::Result<()> {
-    let mut k = 0;
-    while k < 14 {
-        show_increments(out, COUNTERS[k])?;
-        k += 1;
+    for m in COUNTERS {
+        show_increments(out, m)?;
     }
     Ok(())
 }

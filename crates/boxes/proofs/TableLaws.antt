@@ -1,12 +1,12 @@
--- A table holds a rule when one computed test over its entries says so, when it is composed of two that do, or when a
--- loop has filled it. Assumes nothing.
+-- A table holds a rule when one computed test over its entries says so, or when it is composed of two that do. Assumes
+-- nothing.
 use mathlib.Core.Path.{◌≡◌, ap, ◌∙◌}
 use mathlib.Core.List.{List}
-use Prim.Native.Nat.{ℕ, ◌+◌, ◌≤◌, ◌<◌}
+use Prim.Native.Nat.{ℕ, ◌<◌}
 use native.Mathlib.Omega.{arith}
 use lib.Dec.{T, eqb, eqb→eq}
-use lib.ListN.{length, get_or, set, length-set}
-use Rattle.bits.proofs.Tables.{tabulated, entry as entry_of, stored_next}
+use lib.ListN.{length, get_or}
+use Rattle.bits.proofs.Tables.{tabulated, entry as entry_of}
 use Rattle.boxes.specs.Boxes.{Tabulates}
 
 pub tabulates : (f : ℕ → ℕ) (table : List ℕ) → T (eqb (length table) 256) → T (tabulated f table) → Tabulates f table
@@ -22,21 +22,3 @@ pub tabulates_composed : {f g : ℕ → ℕ} {outer inner table : List ℕ} → 
     → Tabulates (λ b. get_or outer (get_or inner b 0) 0) table → Tabulates (λ b. g (f b)) table
 tabulates_composed {f} {outer = outer} bytes g-table f-table both =
     tabulates_too both (λ b h. ap (λ x. get_or outer x 0) (f-table.entry b h) ∙ g-table.entry (f b) (bytes b))
-
--- ---- a table that is filled
-
--- the first n entries of a table hold a rule
-pub record Filled (n : ℕ) (f : ℕ → ℕ) (table : List ℕ) : Type 0 where
-  pub entries : length table ≡ 256
-  pub entry : (b : ℕ) → b < n → get_or table b 0 ≡ f b
-
-pub filled_none : (f : ℕ → ℕ) (table : List ℕ) → length table ≡ 256 → Filled 0 f table
-filled_none f table e = record { entries = e; entry = λ b h. absurd (omega arith) }
-
-pub filled_next : {n v : ℕ} {f : ℕ → ℕ} {table : List ℕ} → Filled n f table → n < 256 → v ≡ f n → Filled (n + 1) f (set table n v)
-filled_next {n} {v} {f} {table} h room e =
-    let entries : length table ≡ 256 = h.entries in
-    record { entries = simp length-set entries; entry = stored_next table n v (omega arith) (λ b x. x ≡ f b) h.entry e }
-
-pub filled-all : {n : ℕ} {f : ℕ → ℕ} {table : List ℕ} → 256 ≤ n → Filled n f table → Tabulates f table
-filled-all p h = record { entries = h.entries; entry = λ b hb. h.entry b (omega arith) }

@@ -7,6 +7,8 @@ ghost use Rattle.field.specs.Field.{inverse};
 ghost use Rattle.boxes.specs.Boxes as Boxes;
 ghost use Rattle.boxes.specs.Boxes.{sub_byte, inv_sub_byte, Tabulates};
 
+use std::array;
+
 const SBOX: [u8; 256] = *b"\
     \x63\x7c\x77\x7b\xf2\x6b\x6f\xc5\x30\x01\x67\x2b\xfe\xd7\xab\x76\
     \xca\x82\xc9\x7d\xfa\x59\x47\xf0\xad\xd4\xa2\xaf\x9c\xa4\x72\xc0\
@@ -36,19 +38,13 @@ pub fn sbox() -> [u8; 256]
 fn unaffine(b: u8) -> u8
     ensures { result ≡ Boxes.unaffine b }
 {
-    (b << 1) ^ (b >> 7) ^ (b << 3) ^ (b >> 5) ^ (b << 6) ^ (b >> 2) ^ 0x05
+    b.rotate_left(1) ^ b.rotate_left(3) ^ b.rotate_left(6) ^ 0x05
 }
 
 fn unaffine_table() -> [u8; 256]
     ensures { Tabulates Boxes.unaffine result }
 {
-    let mut table = [0; 256];
-    let mut i: usize = 0;
-    while i < 256 {
-        table[i] = unaffine(i as u8);
-        i += 1;
-    }
-    table
+    array::from_fn(|i| unaffine(i as u8))
 }
 
 // The inverses in the field. SubBytes of a byte is the affine map of its inverse, so with that map undone the S-box
@@ -57,26 +53,7 @@ fn inverse_table() -> [u8; 256]
     ensures { Tabulates inverse result }
 {
     let sbox = sbox();
-    let mut table = [0; 256];
-    let mut i: usize = 0;
-    while i < 256 {
-        table[i] = unaffine(sbox[i]);
-        i += 1;
-    }
-    table
-}
-
-// The table of `outer` after `inner`.
-fn composed(outer: &[u8; 256], inner: &[u8; 256]) -> [u8; 256]
-    ensures { Tabulates (λ i. get_or outer.now (get_or inner.now i 0) 0) result }
-{
-    let mut table = [0; 256];
-    let mut i: usize = 0;
-    while i < 256 {
-        table[i] = substitute(outer, inner[i]);
-        i += 1;
-    }
-    table
+    array::from_fn(|i| unaffine(sbox[i]))
 }
 
 // The table of InvSubBytes, by its formula: the affine map undone, then the inverse. Each step is a loop of its own
@@ -84,7 +61,9 @@ fn composed(outer: &[u8; 256], inner: &[u8; 256]) -> [u8; 256]
 pub fn inv_sbox() -> [u8; 256]
     ensures { Tabulates inv_sub_byte result }
 {
-    composed(&inverse_table(), &unaffine_table())
+    let inverses = inverse_table();
+    let undone = unaffine_table();
+    array::from_fn(|i| substitute(&inverses, undone[i]))
 }
 
 // A table's entry for a byte.
@@ -98,10 +77,5 @@ pub fn substitute(table: &[u8; 256], b: u8) -> u8
 pub fn substitute_row(table: &[u8; 256], row: [u8; 4]) -> [u8; 4]
     ensures { result ≡ four (λ i. get_or table.now (get_or row i 0) 0) }
 {
-    [
-        substitute(table, row[0]),
-        substitute(table, row[1]),
-        substitute(table, row[2]),
-        substitute(table, row[3]),
-    ]
+    row.map(|b| substitute(table, b))
 }

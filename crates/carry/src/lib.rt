@@ -23,24 +23,30 @@ pub struct Session32 {
 
 impl Session32 {
     // Today's session with each part as it was.
+    #[tactic(auto, unfolding(crate::specs::Older::carried))]
     pub fn carried(self) -> Session
         ensures { result ≡ carried self }
     {
-        let mode = self.mode;
-        let direction = self.direction;
         let keys = self.keys;
         let register = self.register;
-        let units = self.units as u64;
         Session {
-            mode,
-            direction,
+            mode: self.mode,
+            direction: self.direction,
             n: self.n,
             m: self.m,
             rounds: self.rounds,
             keys,
             register,
-            units,
+            units: self.units.into(),
             closed: self.closed,
         }
+    }
+}
+
+impl From<Session32> for Session {
+    ghost from_gives = { λ older session. session ≡ carried older };
+
+    fn from(older: Session32) -> Session {
+        older.carried()
     }
 }

@@ -3,43 +3,67 @@
 use mathlib.Core.Path.{◌≡◌, refl, sym, ap, ◌∙◌}
 use mathlib.Core.Bool.{Bool, true, false}
 use mathlib.Core.List.{List, [], ◌∷◌}
-use Prim.Native.Nat.{ℕ, ◌+◌, ◌*◌, ◌/◌, ◌%◌, ◌^◌, ◌<◌}
-use native.Mathlib.Nat.{zero-add, add-zero}
-use lib.ListN.{get_or}
-use Rattle.bits.specs.Xor.{xor, xor_bytes}
-use Rattle.bits.specs.Counter.{number_bytes}
+use Prim.Native.Nat.{ℕ, ◌+◌, ◌*◌, ◌/◌, ◌%◌, ◌<◌}
+use native.Mathlib.Nat.{zero-add}
+use native.Mathlib.Omega.{arith}
+use mir.Syntax.{w32}
+use lib.ListN.{length, get_or}
+use Rattle.std.specs.Int.{from_le_bytes}
+use Rattle.bits.specs.Blocks.{Bytes}
+use Rattle.bits.specs.Xor.{xor}
 use Rattle.bits.proofs.Xor as Xor
-use Rattle.field.specs.Rows.{four}
-use Rattle.field.proofs.Fours.{four_ext}
+use Rattle.bits.proofs.Lists.{listed}
+use Rattle.field.specs.Rows.{four, word_at}
+use Rattle.field.proofs.Fours.{four_ext, four-at}
 use Rattle.steps.specs.State.{at, state, column, from_block, to_block}
 use Rattle.steps.specs.Steps.{bytewise, shift_rows}
+use Rattle.steps.proofs.StateLaws.{at-state, state_ext}
 use Rattle.columns.specs.Inner.Words.{byte_at, word_bytes, of_words}
 use Rattle.columns.specs.Inner.Rounds.{entry_sum, drawn, round_column, last_byte, last_column, table_round, last_round, add_words, mirrored, arranged}
-use Rattle.columns.proofs.ByteLaws.{same-four, byte_xor, sum_bytes, top, second, third, bottom}
+use Rattle.columns.proofs.ByteLaws.{same-four, word-made, word_byte, bottom, byte_xor}
 
 -- words whose bytes are known, column by column
-of_columns : (f : ℕ → ℕ → ℕ) (a b c d : ℕ) → word_bytes a ≡ four (λ r. f r 0) → word_bytes b ≡ four (λ r. f r 1)
-    → word_bytes c ≡ four (λ r. f r 2) → word_bytes d ≡ four (λ r. f r 3) → of_words a b c d ≡ state f
-unfolding of_words word_bytes state four
-of_columns f a b c d p q r s = cc
+of_columns : (f : ℕ → ℕ → ℕ) (w : List ℕ) → ((c : ℕ) → c < 4 → word_bytes (get_or w c 0) ≡ four (λ r. f r c)) → of_words w ≡ state f
+unfolding of_words
+of_columns f w h = state_ext (λ r c. byte_at (get_or w c 0) r) f (λ r c hr hc. word_byte (get_or w c 0) (λ r. f r c) (h c hc) r hr)
+
+at-words : (w : List ℕ) (r c : ℕ) → r < 4 → c < 4 → at (of_words w) r c ≡ byte_at (get_or w c 0) r
+unfolding of_words
+at-words w = at-state (λ r c. byte_at (get_or w c 0) r)
 
 -- ---- a block, in and out
 
-pub loaded : (b : List ℕ) (p q r s : ℕ) → word_bytes p ≡ get_or b 0 0 ∷ get_or b 1 0 ∷ get_or b 2 0 ∷ get_or b 3 0 ∷ []
-    → word_bytes q ≡ get_or b 4 0 ∷ get_or b 5 0 ∷ get_or b 6 0 ∷ get_or b 7 0 ∷ [] → word_bytes r ≡ get_or b 8 0 ∷ get_or b 9 0 ∷ get_or b 10 0 ∷ get_or b 11 0 ∷ []
-    → word_bytes s ≡ get_or b 12 0 ∷ get_or b 13 0 ∷ get_or b 14 0 ∷ get_or b 15 0 ∷ [] → of_words p q r s ≡ from_block b
-unfolding from_block four
-loaded b p q r s = of_columns (λ r c. get_or b (4 * c + r) 0) p q r s
+pub loaded : (b w : List ℕ) → ((c : ℕ) → c < 4 → word_bytes (get_or w c 0) ≡ word_at b c) → of_words w ≡ from_block b
+unfolding from_block word_at
+loaded b w h = of_columns (λ r c. get_or b (4 * c + r) 0) w h
 
-pub stored : (a b c d : ℕ) {k l m n : List ℕ} → k ≡ number_bytes 4 a → l ≡ number_bytes 4 b → m ≡ number_bytes 4 c → n ≡ number_bytes 4 d
-    → get_or k 3 0 ∷ get_or k 2 0 ∷ get_or k 1 0 ∷ get_or k 0 0 ∷ get_or l 3 0 ∷ get_or l 2 0 ∷ get_or l 1 0 ∷ get_or l 0 0 ∷ get_or m 3 0 ∷ get_or m 2 0 ∷ get_or m 1 0 ∷ get_or m 0 0 ∷ get_or n 3 0 ∷ get_or n 2 0 ∷ get_or n 1 0 ∷ get_or n 0 0 ∷ []
-    ≡ to_block (of_words a b c d)
-unfolding to_block column at state four of_words byte_at number_bytes
-stored a b c d p q r s = rw (p, q, r, s)
+pub stored : (w : List ℕ) {b : List ℕ} → length b ≡ 16 → ((i : ℕ) → i < 16 → get_or b i 0 ≡ get_or (word_bytes (get_or w (i / 4) 0)) (i % 4) 0) → b ≡ to_block (of_words w)
+unfolding to_block column at state four of_words word_bytes
+stored w {b} long h =
+    rw (
+      sym (listed 0 16 b long),
+      h 0 (omega arith),
+      h 1 (omega arith),
+      h 2 (omega arith),
+      h 3 (omega arith),
+      h 4 (omega arith),
+      h 5 (omega arith),
+      h 6 (omega arith),
+      h 7 (omega arith),
+      h 8 (omega arith),
+      h 9 (omega arith),
+      h 10 (omega arith),
+      h 11 (omega arith),
+      h 12 (omega arith),
+      h 13 (omega arith),
+      h 14 (omega arith),
+      h 15 (omega arith),
+    ) refl
 
-pub arranged_back : (a b c d : ℕ) {decrypting : Bool} → decrypting ≡ true → of_words a d c b ≡ arranged decrypting (of_words a b c d)
+pub arranged_back : (w : List ℕ) {decrypting : Bool} → decrypting ≡ true
+    → of_words (get_or w 0 0 ∷ get_or w 3 0 ∷ get_or w 2 0 ∷ get_or w 1 0 ∷ []) ≡ arranged decrypting (of_words w)
 unfolding arranged mirrored of_words at state four
-arranged_back a b c d e = rw e
+arranged_back w e = rw e
 
 pub arranged-same : (s : List (List ℕ)) {decrypting : Bool} → decrypting ≡ false → s ≡ arranged decrypting s
 unfolding arranged
@@ -51,61 +75,54 @@ word_xor : (x y : ℕ) → word_bytes (xor x y) ≡ four (λ r. xor (byte_at x r
 unfolding word_bytes four
 word_xor x y = same-four (byte_xor x y 0) (byte_xor x y 1) (byte_xor x y 2) (byte_xor x y 3)
 
-pub first_added : (p : List ℕ) (a b c d : ℕ)
-    → of_words (xor a (get_or p 1280 0)) (xor b (get_or p 1281 0)) (xor c (get_or p 1282 0)) (xor d (get_or p 1283 0)) ≡ add_words p 0 (of_words a b c d)
-unfolding add_words of_words at state four
-first_added p a b c d =
-    of_columns (λ r k. xor (byte_at (get_or (a ∷ b ∷ c ∷ d ∷ []) k 0) r) (byte_at (get_or p (1280 + k) 0) r)) (xor a (get_or p 1280 0)) (xor b (get_or p 1281 0))
-    (xor c (get_or p 1282 0)) (xor d (get_or p 1283 0)) (word_xor a (get_or p 1280 0)) (word_xor b (get_or p 1281 0)) (word_xor c (get_or p 1282 0)) (word_xor d (get_or p 1283 0))
+pub added : (p : List ℕ) (round : ℕ) (s w : List ℕ) → ((c : ℕ) → c < 4 → get_or w c 0 ≡ xor (get_or s c 0) (get_or p (1280 + 4 * round + c) 0))
+    → of_words w ≡ add_words p round (of_words s)
+unfolding add_words
+added p round s w h =
+    of_columns (λ r c. xor (at (of_words s) r c) (byte_at (get_or p (1280 + 4 * round + c) 0) r)) w
+    (λ c hc. ap word_bytes (h c hc) ∙ word_xor (get_or s c 0) (get_or p (1280 + 4 * round + c) 0)
+    ∙ four_ext _ _ (λ r hr. ap (λ b. xor b (byte_at (get_or p (1280 + 4 * round + c) 0) r)) (sym (at-words s r c hr hc))))
 
 -- ---- a round
 
--- five words by XOR, row by row
-sum_five : (p q s t k : ℕ) → word_bytes (xor (xor (xor (xor p q) s) t) k) ≡ four (λ r. xor (xor (byte_at p r) (xor (byte_at q r) (xor (byte_at s r) (byte_at t r)))) (byte_at k r))
-unfolding word_bytes
-sum_five p q s t k = four_ext _ _ (λ r h. row r)
+-- the bytes that ShiftRows brings into a column
+pub drawn-bytes : (s : List ℕ) (c : ℕ) {x : List ℕ} → length x ≡ 4 → ((k : ℕ) → k < 4 → get_or x k 0 ≡ get_or (word_bytes (get_or s ((c + k) % 4) 0)) k 0) → x ≡ four (drawn (of_words s) c)
+unfolding drawn of_words word_bytes at state four
+drawn-bytes s c {x} long h = sym (listed 0 4 x long) ∙ four_ext (λ k. get_or x k 0) (drawn (of_words s) c) byte
   where
-    row : (r : ℕ) → byte_at (xor (xor (xor (xor p q) s) t) k) r ≡ xor (xor (byte_at p r) (xor (byte_at q r) (xor (byte_at s r) (byte_at t r)))) (byte_at k r)
+    byte : (k : ℕ) → k < 4 → get_or x k 0 ≡ drawn (of_words s) c k
+    byte k hk = h k hk ∙ four-at 0 (byte_at (get_or s ((c + k) % 4) 0)) k hk ∙ sym (at-words s k ((c + k) % 4) hk (omega arith))
+
+-- four words by XOR, row by row
+sum_four : (p q s t : ℕ) → word_bytes (xor (xor (xor p q) s) t) ≡ four (λ r. xor (byte_at p r) (xor (byte_at q r) (xor (byte_at s r) (byte_at t r))))
+unfolding word_bytes
+sum_four p q s t = four_ext _ _ (λ r h. row r)
+  where
+    row : (r : ℕ) → byte_at (xor (xor (xor p q) s) t) r ≡ xor (byte_at p r) (xor (byte_at q r) (xor (byte_at s r) (byte_at t r)))
     row r = simp (byte_xor, Xor.assoc)
 
-module _ (p : List ℕ) (a b c d key : ℕ) (h : d < 2 ^ 32) where
-  pub round-column :
-      word_bytes (xor (xor (xor (xor (get_or p (a % 256) 0) (get_or p (256 + b / 256 % 256) 0)) (get_or p (512 + c / 65536 % 256) 0)) (get_or p (768 + d / 16777216) 0)) key)
-      ≡ round_column p (drawn a b c d) key
-  unfolding round_column entry_sum drawn
-  round-column =
-      rw (sym (bottom a), sym (second b), sym (third c), sym (top d h), zero-add (a % 256))
-      (sum_five (get_or p (a % 256) 0) (get_or p (256 + b / 256 % 256) 0) (get_or p (512 + c / 65536 % 256) 0) (get_or p (768 + d / 16777216) 0) key)
+pub round-column : (p x : List ℕ)
+    → word_bytes (xor (xor (xor (get_or p (get_or x 0 0) 0) (get_or p (256 + get_or x 1 0) 0)) (get_or p (512 + get_or x 2 0) 0)) (get_or p (768 + get_or x 3 0) 0))
+    ≡ round_column p x
+unfolding round_column entry_sum word_bytes four
+round-column p x =
+    rw (zero-add (get_or x 0 0))
+    (sum_four (get_or p (get_or x 0 0) 0) (get_or p (256 + get_or x 1 0) 0) (get_or p (512 + get_or x 2 0) 0) (get_or p (768 + get_or x 3 0) 0))
 
-pub last-column : (p : List ℕ) (a b c d key w : ℕ) → d < 2 ^ 32
-    → word_bytes w ≡ get_or p (1024 + a % 256) 0 % 256 ∷ get_or p (1024 + b / 256 % 256) 0 % 256 ∷ get_or p (1024 + c / 65536 % 256) 0 % 256 ∷ get_or p (1024 + d / 16777216) 0 % 256 ∷ []
-    → word_bytes (xor w key) ≡ last_column p (drawn a b c d) key
-unfolding last_column last_byte drawn word_bytes four xor_bytes
-last-column p a b c d key w h e =
-    rw (
-      sym (bottom a),
-      sym (second b),
-      sym (third c),
-      sym (top d h),
-      sym (bottom (get_or p (1024 + a % 256) 0)),
-      sym (bottom (get_or p (1024 + b / 256 % 256) 0)),
-      sym (bottom (get_or p (1024 + c / 65536 % 256) 0)),
-      sym (bottom (get_or p (1024 + d / 16777216) 0)),
-    ) (sum_bytes w key {l = word_bytes key} e refl)
+pub last-column : (p x w : List ℕ) → Bytes w → ((k : ℕ) → k < 4 → get_or w k 0 ≡ get_or p (1024 + get_or x k 0) 0 % 256) → word_bytes (from_le_bytes w32 w) ≡ last_column p x
+unfolding last_column last_byte
+last-column p x w bytes h = word-made bytes ∙ four_ext (λ k. get_or w k 0) _ (λ k hk. h k hk ∙ bottom (get_or p (1024 + get_or x k 0) 0))
 
--- Four words are the columns of a state after a round.
-pub rounded : (t : List ℕ) (round a b c d p q r s : ℕ) → word_bytes p ≡ round_column t (drawn a b c d) (get_or t (1280 + 4 * round) 0)
-    → word_bytes q ≡ round_column t (drawn b c d a) (get_or t (1280 + 4 * round + 1) 0) → word_bytes r ≡ round_column t (drawn c d a b) (get_or t (1280 + 4 * round + 2) 0)
-    → word_bytes s ≡ round_column t (drawn d a b c) (get_or t (1280 + 4 * round + 3) 0) → of_words p q r s ≡ add_words t round (table_round t (of_words a b c d))
-unfolding add_words table_round round_column drawn entry_sum of_words at state four
-rounded t round a b c d p q r s hp hq hr hs =
-    of_columns (λ r k. xor (at (table_round t (of_words a b c d)) r k) (byte_at (get_or t (1280 + 4 * round + k) 0) r)) p q r s
-    (hp ∙ ap (λ n. round_column t (drawn a b c d) (get_or t n 0)) (sym (add-zero (1280 + 4 * round)))) hq hr hs
+-- Four words are the columns of a state after a round but for its key.
+pub rounded : (p s w : List ℕ) → ((c : ℕ) → c < 4 → word_bytes (get_or w c 0) ≡ round_column p (four (drawn (of_words s) c))) → of_words w ≡ table_round p (of_words s)
+unfolding table_round round_column entry_sum four
+rounded p s w h = of_columns (λ r c. entry_sum p (drawn (of_words s) c) r) w h
 
-pub last_rounded : (t : List ℕ) (round a b c d p q r s : ℕ) → word_bytes p ≡ last_column t (drawn a b c d) (get_or t (1280 + 4 * round) 0)
-    → word_bytes q ≡ last_column t (drawn b c d a) (get_or t (1280 + 4 * round + 1) 0) → word_bytes r ≡ last_column t (drawn c d a b) (get_or t (1280 + 4 * round + 2) 0)
-    → word_bytes s ≡ last_column t (drawn d a b c) (get_or t (1280 + 4 * round + 3) 0) → of_words p q r s ≡ add_words t round (last_round t (of_words a b c d))
-unfolding add_words last_round shift_rows bytewise last_column drawn of_words at state four
-last_rounded t round a b c d p q r s hp hq hr hs =
-    of_columns (λ r k. xor (at (last_round t (of_words a b c d)) r k) (byte_at (get_or t (1280 + 4 * round + k) 0) r)) p q r s
-    (hp ∙ ap (λ n. last_column t (drawn a b c d) (get_or t n 0)) (sym (add-zero (1280 + 4 * round)))) hq hr hs
+pub last_rounded : (p s w : List ℕ) → ((c : ℕ) → c < 4 → word_bytes (get_or w c 0) ≡ last_column p (four (drawn (of_words s) c))) → of_words w ≡ last_round p (of_words s)
+unfolding last_round shift_rows bytewise last_column drawn
+last_rounded p s w h =
+    of_columns (λ r c. at (state (λ r c. last_byte p (at (of_words s) r c))) r ((c + r) % 4)) w
+    (λ c hc. h c hc ∙ four_ext _ _ (λ r hr. ap (last_byte p) (drawn-at r c hr) ∙ sym (at-state (λ r c. last_byte p (at (of_words s) r c)) r ((c + r) % 4) hr (omega arith))))
+  where
+    drawn-at : (r c : ℕ) → r < 4 → get_or (four (λ k. at (of_words s) k ((c + k) % 4))) r 0 ≡ at (of_words s) r ((c + r) % 4)
+    drawn-at r c hr = four-at 0 (λ k. at (of_words s) k ((c + k) % 4)) r hr

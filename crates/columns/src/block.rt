@@ -3,64 +3,40 @@ ghost use Rattle.std.specs.Prelude.{◌≡◌, true};
 ghost use Rattle.steps.specs.State.{from_block, to_block};
 ghost use Rattle.cipher.specs.Cipher.{rounds_ok};
 ghost use Rattle.columns.specs.Inner.Words.{of_words};
-ghost use Rattle.columns.specs.Inner.Rounds.{add_words, arranged, rounds_in, decrypts_by, block_by_rounds};
+ghost use Rattle.columns.specs.Inner.Rounds.{arranged, rounds_in, decrypts_by, block_by_rounds};
 ghost use Rattle.columns.specs.Block.{prepared_block};
 
 use crate::layout::Prepared;
-use crate::rounds::Columns;
-use crate::{layout, rounds, words};
+use crate::{layout, rounds};
+use std::array;
 
-fn load(b: [u8; 16]) -> Columns
-    ensures { of_words result.a result.b result.c result.d ≡ from_block b }
+fn load(block: [u8; 16]) -> [u32; 4]
+    ensures { of_words result ≡ from_block block }
 {
-    Columns {
-        a: words::word(b[0], b[1], b[2], b[3]),
-        b: words::word(b[4], b[5], b[6], b[7]),
-        c: words::word(b[8], b[9], b[10], b[11]),
-        d: words::word(b[12], b[13], b[14], b[15]),
-    }
+    array::from_fn(|c| {
+        let at = 4 * c;
+        u32::from_le_bytes([block[at], block[at + 1], block[at + 2], block[at + 3]])
+    })
 }
 
 // To decrypt, the columns stand in the order 0, 3, 2, 1.
-fn arrange(decrypting: bool, s: Columns) -> Columns
-    ensures { of_words result.a result.b result.c result.d ≡ arranged decrypting (of_words s.a s.b s.c s.d) }
+fn arrange(decrypting: bool, s: [u32; 4]) -> [u32; 4]
+    ensures { of_words result ≡ arranged decrypting (of_words s) }
 {
     if decrypting {
-        Columns {
-            a: s.a,
-            b: s.d,
-            c: s.c,
-            d: s.b,
-        }
+        [s[0], s[3], s[2], s[1]]
     } else {
         s
     }
 }
 
-fn add_words(prepared: &Prepared, s: Columns) -> Columns
-    ensures { of_words result.a result.b result.c result.d ≡ add_words prepared.now 0 (of_words s.a s.b s.c s.d) }
+fn store(s: [u32; 4]) -> [u8; 16]
+    ensures { result ≡ to_block (of_words s) }
 {
-    Columns {
-        a: s.a ^ prepared[layout::KEYS],
-        b: s.b ^ prepared[layout::KEYS + 1],
-        c: s.c ^ prepared[layout::KEYS + 2],
-        d: s.d ^ prepared[layout::KEYS + 3],
-    }
+    array::from_fn(|i| s[i / 4].to_le_bytes()[i % 4])
 }
 
-fn store(s: Columns) -> [u8; 16]
-    ensures { result ≡ to_block (of_words s.a s.b s.c s.d) }
-{
-    let a = field::split_row(s.a);
-    let b = field::split_row(s.b);
-    let c = field::split_row(s.c);
-    let d = field::split_row(s.d);
-    [
-        a[3], a[2], a[1], a[0], b[3], b[2], b[1], b[0], c[3], c[2], c[1], c[0], d[3], d[2], d[1],
-        d[0],
-    ]
-}
-
+// What is said of a word is said of its bytes, so a number is read by the lowest.
 fn decrypts(prepared: &Prepared) -> bool
     ensures { result ≡ decrypts_by prepared.now }
 {
@@ -78,14 +54,12 @@ fn by_rounds(prepared: &Prepared, rounds: usize, block: [u8; 16]) -> [u8; 16]
     ensures { result ≡ block_by_rounds prepared.now rounds block }
 {
     let decrypting = decrypts(prepared);
-    let mut s = add_words(prepared, arrange(decrypting, load(block)));
-    let mut round: usize = 1;
-    while round < rounds {
-        let next = rounds::full_round(prepared, round, s);
-        s = next;
-        round += 1;
+    let mut s = rounds::add_words(prepared, 0, arrange(decrypting, load(block)));
+    for round in 1..rounds {
+        s = rounds::add_words(prepared, round, rounds::table_round(prepared, s));
     }
-    store(arrange(decrypting, rounds::last_round(prepared, rounds, s)))
+    let last = rounds::add_words(prepared, rounds, rounds::last_round(prepared, s));
+    store(arrange(decrypting, last))
 }
 
 // Zero bytes under rounds other than 10, 12 and 14.

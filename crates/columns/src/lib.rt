@@ -6,8 +6,6 @@
 mod block;
 mod layout;
 mod rounds;
-mod words;
 
 pub use block::by_prepared;
 pub use layout::{DIRECTION, KEYS, LAST, Prepared, ROUNDS, WORDS};
-pub use words::{turn_one, turn_three, turn_two, word};

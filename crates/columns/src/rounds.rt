@@ -1,63 +1,53 @@
-// The rounds, column by column.
+// The rounds, column by column. A state is four words, its columns.
 ghost use Rattle.std.specs.Prelude.{◌≡◌, ◌<◌};
+ghost use Rattle.field.specs.Rows.{four};
 ghost use Rattle.columns.specs.Inner.Words.{word_bytes, of_words};
 ghost use Rattle.columns.specs.Inner.Rounds.{drawn, round_column, last_column, table_round, last_round, add_words};
 
+use crate::layout;
 use crate::layout::Prepared;
-use crate::{layout, words};
+use std::array;
 
-#[derive(Clone, Copy)]
-pub struct Columns {
-    pub a: u32,
-    pub b: u32,
-    pub c: u32,
-    pub d: u32,
+// The bytes that ShiftRows brings into column c.
+fn drawn(s: [u32; 4], c: usize) -> [u8; 4]
+    requires { c < 4 }
+    ensures { result ≡ four (drawn (of_words s) c) }
+{
+    array::from_fn(|k| s[(c + k) % 4].to_le_bytes()[k])
 }
 
-// A column after a round. Row k reads part k of the table.
-fn round_word(prepared: &Prepared, a: u32, b: u32, c: u32, d: u32, key: u32) -> u32
-    ensures { word_bytes result ≡ round_column prepared.now (drawn a b c d) key }
+// Row k reads part k of the table.
+fn round_word(prepared: &Prepared, x: [u8; 4]) -> u32
+    ensures { word_bytes result ≡ round_column prepared.now x }
 {
-    let first = prepared[(a % 256) as usize];
-    let second = prepared[256 + ((b >> 8) % 256) as usize];
-    let third = prepared[512 + ((c >> 16) % 256) as usize];
-    let fourth = prepared[768 + (d >> 24) as usize];
-    first ^ second ^ third ^ fourth ^ key
+    prepared[x[0] as usize]
+        ^ prepared[256 + x[1] as usize]
+        ^ prepared[512 + x[2] as usize]
+        ^ prepared[768 + x[3] as usize]
 }
 
-pub fn full_round(prepared: &Prepared, round: usize, s: Columns) -> Columns
-    requires { round < 15 }
-    ensures { of_words result.a result.b result.c result.d ≡ add_words prepared.now round (table_round prepared.now (of_words s.a s.b s.c s.d)) }
+fn last_word(prepared: &Prepared, x: [u8; 4]) -> u32
+    ensures { word_bytes result ≡ last_column prepared.now x }
 {
-    let at = layout::KEYS + 4 * round;
-    Columns {
-        a: round_word(prepared, s.a, s.b, s.c, s.d, prepared[at]),
-        b: round_word(prepared, s.b, s.c, s.d, s.a, prepared[at + 1]),
-        c: round_word(prepared, s.c, s.d, s.a, s.b, prepared[at + 2]),
-        d: round_word(prepared, s.d, s.a, s.b, s.c, prepared[at + 3]),
-    }
+    u32::from_le_bytes(array::from_fn(|k| (prepared[layout::LAST + x[k] as usize] % 256) as u8))
 }
 
-fn last_word(prepared: &Prepared, a: u32, b: u32, c: u32, d: u32, key: u32) -> u32
-    ensures { word_bytes result ≡ last_column prepared.now (drawn a b c d) key }
+pub fn table_round(prepared: &Prepared, s: [u32; 4]) -> [u32; 4]
+    ensures { of_words result ≡ table_round prepared.now (of_words s) }
 {
-    let first = (prepared[layout::LAST + (a % 256) as usize] % 256) as u8;
-    let second = (prepared[layout::LAST + ((b >> 8) % 256) as usize] % 256) as u8;
-    let third = (prepared[layout::LAST + ((c >> 16) % 256) as usize] % 256) as u8;
-    let fourth = (prepared[layout::LAST + (d >> 24) as usize] % 256) as u8;
-    words::word(first, second, third, fourth) ^ key
+    array::from_fn(|c| round_word(prepared, drawn(s, c)))
 }
 
 // The last round has no MixColumns.
-pub fn last_round(prepared: &Prepared, round: usize, s: Columns) -> Columns
-    requires { round < 15 }
-    ensures { of_words result.a result.b result.c result.d ≡ add_words prepared.now round (last_round prepared.now (of_words s.a s.b s.c s.d)) }
+pub fn last_round(prepared: &Prepared, s: [u32; 4]) -> [u32; 4]
+    ensures { of_words result ≡ last_round prepared.now (of_words s) }
 {
-    let at = layout::KEYS + 4 * round;
-    Columns {
-        a: last_word(prepared, s.a, s.b, s.c, s.d, prepared[at]),
-        b: last_word(prepared, s.b, s.c, s.d, s.a, prepared[at + 1]),
-        c: last_word(prepared, s.c, s.d, s.a, s.b, prepared[at + 2]),
-        d: last_word(prepared, s.d, s.a, s.b, s.c, prepared[at + 3]),
-    }
+    array::from_fn(|c| last_word(prepared, drawn(s, c)))
+}
+
+pub fn add_words(prepared: &Prepared, round: usize, s: [u32; 4]) -> [u32; 4]
+    requires { round < 15 }
+    ensures { of_words result ≡ add_words prepared.now round (of_words s) }
+{
+    array::from_fn(|c| s[c] ^ prepared[layout::KEYS + 4 * round + c])
 }

@@ -14,8 +14,7 @@ use Rattle.rules.specs.Numbers.{modes, mode_of}
 use Rattle.modes.specs.declared.session.Session.{Session}
 use Rattle.questions.specs.Questions.{ask}
 use Rattle.questions.proofs.BoundLaws.{ask_below}
-use Rattle.forecast.specs.declared.Cost.{Cost}
-use Rattle.forecast.specs.Costs.{forecast_questions, forecast_number, ForecastBy}
+use Rattle.forecast.specs.Costs.{Cost, forecast_questions, forecast_number, ForecastBy}
 use Rattle.single.specs.Single.{neighbour_questions, neighbour_answer, neighbour_of, block_at}
 use Rattle.single.proofs.NumberLaws.{neighbour_taken, iv-length}
 use Rattle.inspect.specs.Alike.{alike_to}
@@ -71,11 +70,6 @@ forecast_of_no_mode mode n bits r f =
 module _ (iv text : List ℕ) (j : ℕ) where
   abbrev asked : ℕ
   asked = ask (neighbour_questions iv text j)
-
-  pub no-neighbour : {r : Neighbour} → r.number ≡ asked → (r.number ≡ 0 → ⊥) → r.offset ≡ 0 → r.length ≡ 0 → r.source ≡ 0 → NeighbourAt iv text j r
-  no-neighbour a refused o l s =
-      let nay = ne_eqb asked 0 (λ e. refused (a ∙ e)) in
-      record { answer = a; offset = rw nay o; length = rw nay l; source = rw nay s }
 
   pub a-neighbour : {r : Neighbour} → r.number ≡ asked → r.number ≡ 0 → r.offset ≡ offset_of j → r.length ≡ 16 → r.source ≡ min j 1 → NeighbourAt iv text j r
   a-neighbour a taken o l s =

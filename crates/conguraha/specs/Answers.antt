@@ -5,9 +5,8 @@ use Rattle.rules.specs.Numbers.{mode_of}
 use Rattle.rules.specs.Rules.{units_in}
 use Rattle.questions.specs.Questions.{ask}
 use Rattle.forecast.specs.Costs.{forecast_number}
-use Rattle.padding.specs.declared.append.Padded.{Padded}
-use Rattle.padding.specs.declared.strip.Unpadded.{Unpadded}
-use Rattle.places.specs.declared.Place.{Place}
+use Rattle.padding.specs.Padding.{Padded, Unpadded}
+use Rattle.places.specs.Answers.{Place}
 use Rattle.single.specs.Single.{neighbour_questions}
 use Rattle.held.specs.Calls.{mode_first}
 use Rattle.conguraha.specs.declared.counters.Forecast.{Forecast}

@@ -5,8 +5,7 @@ use Rattle.calls.specs.Calls.{Calls}
 use Rattle.rules.specs.Numbers.{modes, mode_of, direction_of}
 use Rattle.feeds.specs.Lists.{Call, Feeds}
 use Rattle.feeds.specs.Promises.{TextOf, Recovered}
-use Rattle.forecast.specs.declared.Cost.{Cost}
-use Rattle.forecast.specs.Costs.{ForecastBy}
+use Rattle.forecast.specs.Costs.{Cost, ForecastBy}
 use Rattle.carry.specs.declared.Session32.{Session32}
 use Rattle.carry.specs.Older.{carried}
 use Rattle.single.specs.Single.{neighbour_answer}

@@ -2,6 +2,8 @@
 ghost use Rattle.places.specs.Answers.{ToldBy};
 ghost use Rattle.conguraha.specs.Answers.{HeldForecastBy, place_of};
 
+use rules::Mode;
+
 // What an accepted feed of a given number of bits will write and run; zeros where it is refused.
 #[repr(C)]
 #[derive(Clone, Copy)]
@@ -15,19 +17,24 @@ pub struct Forecast {
 pub extern "C" fn conguraha1_forecast(mode: usize, n: usize, bits: usize) -> Forecast
     ensures { HeldForecastBy mode n bits result }
 {
-    if mode >= rules::MODES {
+    let Ok(own) = Mode::try_from(mode) else {
         return Forecast {
             bytes: 0,
             runs: 0,
             number: held::NO_MODE,
         };
-    }
-    let cost = forecast::forecast(rules::mode_of(mode), n, bits);
-    let number = cost.number as usize;
-    Forecast {
-        bytes: cost.bytes,
-        runs: cost.runs,
-        number,
+    };
+    match forecast::forecast(own, n, bits) {
+        Ok(cost) => Forecast {
+            bytes: cost.bytes,
+            runs: cost.runs,
+            number: 0,
+        },
+        Err(refusal) => Forecast {
+            bytes: 0,
+            runs: 0,
+            number: u8::from(refusal).into(),
+        },
     }
 }
 
@@ -48,8 +55,14 @@ pub extern "C" fn conguraha1_counter_place(
 ) -> CounterPlace
     ensures { ToldBy iv.now block.now m (place_of result) }
 {
-    let place = places::of_block(*iv, *block, m);
-    let increments = place.increments;
-    let number = place.number as usize;
-    CounterPlace { increments, number }
+    match places::of_block(*iv, *block, m) {
+        Ok(increments) => CounterPlace {
+            increments,
+            number: 0,
+        },
+        Err(refusal) => CounterPlace {
+            increments: [0; 16],
+            number: u8::from(refusal).into(),
+        },
+    }
 }

@@ -2,6 +2,8 @@
 // 16]` as a pointer to 16 bytes, a struct by value. Each call is total; nothing that a caller lends as `&mut` may
 // overlap anything else that it lends. The 1 in each name counts the forms that structs and calls have had: whoever
 // changes one raises the number in all names, and no older program links.
+//
+// The C interface: a number, and zeros beside it, in place of each `Result`.
 #![tactic(auto)]
 
 mod blocks;

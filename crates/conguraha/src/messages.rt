@@ -1,9 +1,13 @@
 // Padding, whole messages with ciphertext stealing, and one block of a CBC ciphertext.
+ghost use Rattle.std.specs.Prelude.{◌≡◌};
 ghost use Rattle.rules.specs.declared.Direction.TheVariants.{Encrypt, Decrypt};
-ghost use Rattle.padding.specs.Padding.{PaddedBy, UnpaddedBy};
+ghost use Rattle.padding.specs.Padding.{answered, PaddedBy, UnpaddedBy};
 ghost use Rattle.stealing.specs.Calls.{StolenBy};
 ghost use Rattle.single.specs.Single.{SingleBy};
 ghost use Rattle.conguraha.specs.Answers.{padded_of, unpadded_of, NeighbourAt};
+
+use questions::Refusal;
+use rules::Direction;
 
 // How many bits a padded text has, or a text before its padding; 0 where it is refused.
 #[repr(C)]
@@ -13,29 +17,33 @@ pub struct Length {
     pub number: usize,
 }
 
+impl From<Result<usize, Refusal>> for Length {
+    ghost from_gives = { λ answer length. padded_of length ≡ answered answer };
+
+    fn from(answer: Result<usize, Refusal>) -> Length {
+        match answer {
+            Ok(bits) => Length { bits, number: 0 },
+            Err(refusal) => Length {
+                bits: 0,
+                number: u8::from(refusal).into(),
+            },
+        }
+    }
+}
+
 // Writes the padded text from out[place] on.
 #[unsafe(no_mangle)]
 pub extern "C" fn conguraha1_pad(input: &[u8], bits: usize, out: &mut [u8], place: usize) -> Length
     ensures { PaddedBy input.now bits out.old place (padded_of result) out.new }
 {
-    let padded = padding::pad(input, bits, out, place);
-    let number = padded.number as usize;
-    Length {
-        bits: padded.bits,
-        number,
-    }
+    padding::pad(input, bits, out, place).into()
 }
 
 #[unsafe(no_mangle)]
 pub extern "C" fn conguraha1_unpad(input: &[u8], bits: usize) -> Length
     ensures { UnpaddedBy input.now bits (unpadded_of result) }
 {
-    let unpadded = padding::unpad(input, bits);
-    let number = unpadded.number as usize;
-    Length {
-        bits: unpadded.bits,
-        number,
-    }
+    padding::unpad(input, bits).into()
 }
 
 #[unsafe(no_mangle)]
@@ -49,7 +57,8 @@ pub extern "C" fn conguraha1_cts_encrypt(
 ) -> u8
     ensures { StolenBy Encrypt key.now iv.now input.now bits out.old place result out.new }
 {
-    stealing::encrypt(key, iv, input, bits, out, place)
+    let answer = stealing::process(Direction::Encrypt, key, iv, input, bits, out, place);
+    questions::number(answer)
 }
 
 #[unsafe(no_mangle)]
@@ -63,7 +72,8 @@ pub extern "C" fn conguraha1_cts_decrypt(
 ) -> u8
     ensures { StolenBy Decrypt key.now iv.now input.now bits out.old place result out.new }
 {
-    stealing::decrypt(key, iv, input, bits, out, place)
+    let answer = stealing::process(Direction::Decrypt, key, iv, input, bits, out, place);
+    questions::number(answer)
 }
 
 // Decrypts block j of the ciphertext `text` with its neighbour, and writes its 16 bytes from out[place] on.
@@ -78,7 +88,7 @@ pub extern "C" fn conguraha1_cbc_block<'a>(
 ) -> u8
     ensures { SingleBy key.now iv.now text.now j out.old place result out.new }
 {
-    single::decrypt_block(key, iv, text, j, out, place)
+    questions::number(single::decrypt_block(key, iv, text, j, out, place))
 }
 
 // A part of what was handed over: `length` bytes from `offset` on, of the IV where `source` is 0, of the ciphertext
@@ -97,13 +107,12 @@ pub struct Neighbour {
 pub extern "C" fn conguraha1_cbc_neighbour(iv: &[u8], text: &[u8], j: usize) -> Neighbour
     ensures { NeighbourAt iv.now text.now j result }
 {
-    let number = single::neighbour_number(iv, text, j) as usize;
-    if number != 0 {
+    if let Err(refusal) = single::ask_neighbour(iv, text, j) {
         return Neighbour {
             offset: 0,
             length: 0,
             source: 0,
-            number,
+            number: u8::from(refusal).into(),
         };
     }
     if j == 0 {
@@ -111,7 +120,7 @@ pub extern "C" fn conguraha1_cbc_neighbour(iv: &[u8], text: &[u8], j: usize) -> 
             offset: 0,
             length: 16,
             source: 0,
-            number,
+            number: 0,
         };
     }
     let offset = (j - 1) * 16;
@@ -119,6 +128,6 @@ pub extern "C" fn conguraha1_cbc_neighbour(iv: &[u8], text: &[u8], j: usize) -> 
         offset,
         length: 16,
         source: 1,
-        number,
+        number: 0,
     }
 }

@@ -5,6 +5,7 @@ ghost use Rattle.held.specs.Calls.{HeldOpenedBy, HeldFedBy};
 ghost use Rattle.conguraha.specs.Sessions.{alike_held};
 
 use held::{HeldFed, HeldOpened, HeldSession, HeldSession32};
+use modes::Session;
 
 // Opens a session in which the whole block counts in CTR.
 #[unsafe(no_mangle)]
@@ -62,11 +63,11 @@ pub extern "C" fn conguraha1_carry(older: HeldSession32) -> HeldSession
 pub extern "C" fn conguraha1_alike(a: HeldSession, b: HeldSession) -> u8
     ensures { result ≡ flag_of (alike_held a b) }
 {
-    if a.mode >= rules::MODES {
+    let Ok(first) = Session::try_from(a) else {
         return 0;
-    }
-    if b.mode >= rules::MODES {
+    };
+    let Ok(second) = Session::try_from(b) else {
         return 0;
-    }
-    held::flag(inspect::alike(held::session_of(a), held::session_of(b)))
+    };
+    held::flag(inspect::alike(first, second))
 }

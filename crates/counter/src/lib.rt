@@ -9,12 +9,9 @@ pub fn increment_block(block: [u8; 16], m: usize) -> [u8; 16]
     ensures { result ≡ increment m block }
 {
     let mut out = block;
-    let last = out[15];
-    if m > 7 {
-        if last != 255 {
-            out[15] = last + 1;
-            return out;
-        }
+    if m > 7 && out[15] != u8::MAX {
+        out[15] += 1;
+        return out;
     }
     increment_bytes(block, m)
 }
@@ -26,25 +23,22 @@ fn increment_bytes(block: [u8; 16], m: usize) -> [u8; 16]
     ensures { result ≡ increment m block }
 {
     let mut out = block;
-    let end = if m < 128 { 16 - m / 8 } else { 0 };
-    let mut i = 16;
-    while i > end {
-        i -= 1;
-        if out[i] != 255 {
+    let end = 16usize.saturating_sub(m / 8);
+    for i in (end..16).rev() {
+        if out[i] != u8::MAX {
             out[i] += 1;
             return out;
         }
         out[i] = 0;
     }
-    if i > 0 {
-        let at = i - 1;
-        out[at] = plus_one(out[at], (m % 8) as u32);
+    if end > 0 {
+        out[end - 1] = plus_one(out[end - 1], m % 8);
     }
     out
 }
 
 // 1 more in the lowest k bits of a byte, modulo 2^k.
-fn plus_one(byte: u8, k: u32) -> u8
+fn plus_one(byte: u8, k: usize) -> u8
     requires { k < 8 }
     ensures { result ≡ plus_one k byte }
 {

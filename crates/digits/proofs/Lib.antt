@@ -1,5 +1,4 @@
 -- Laws about the definitions of specs/, a file to a subject.
 pub mod RangeLaws
 pub mod ScanLaws
-pub mod CutLaws
 pub mod DigitLaws

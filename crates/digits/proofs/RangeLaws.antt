@@ -17,10 +17,6 @@ and_second false true e = refl
 and_second false false e = e
 
 module _ (low high b : ℕ) (e : between low high b ≡ true) where
-  pub between-low : low ≤ b
-  unfolding between
-  between-low = leb-true low b (and_first (leb low b) (leb b high) e)
-
   pub between-high : b ≤ high
   unfolding between
   between-high = leb-true b high (and_second (leb low b) (leb b high) e)

@@ -1,31 +1,55 @@
--- A text read byte by byte from its front: what a search, a test of each byte and a count of decimal digits say of the
--- rest from byte i on, one byte further and at the end. Assumes nothing.
-use mathlib.Core.Path.{◌≡◌, sym, ◌∙◌}
-use mathlib.Core.Bool.{Bool, true, false}
-use mathlib.Core.List.{List}
-use Prim.Native.Nat.{ℕ, suc, ◌+◌, ◌*◌, ◌^◌, ◌≤◌, ◌<◌}
-use native.Mathlib.Nat.{lt_of_lt_of_le, pow-le-pow_right}
-use native.Mathlib.Omega.{arith}
-use lib.Dec.{lit<}
+-- A text read byte by byte from its front: how far the first `stop` is, what a test of each byte gives, and what a
+-- count of decimal digits says of the rest from byte i on, one byte further and at the end. Assumes nothing.
+use mathlib.Core.Path.{◌≡◌, refl, ap}
+use mathlib.Core.Bool.{Bool, true, false, not, cond, ◌&&◌}
+use mathlib.Core.List.{List, [], ◌∷◌}
+use Prim.Native.Nat.{ℕ, suc, ◌+◌, ◌*◌, ◌≤◌, ◌<◌}
 use native.Mathlib.Numerals.{add-one}
-use borrow.Author.Tests.{eq-eqb, ne_eqb}
+use borrow.Author.Tests.{ltb-false}
+use lib.Dec.{eqb, ltb}
+use native.Mathlib.Omega.{arith}
 use lib.ListN.{length, get_or, drop, drop_of_length-le}
 use lib.Seq.{drop-cons}
-use Rattle.digits.specs.Texts.{up_to, between, is_decimal, all, value, count_on}
+use Rattle.std.specs.List.{list_all, position_or_len}
+use Rattle.std.specs.Option.{unwrap_or}
+use Rattle.std.proofs.Common.{Some, None}
+use Rattle.digits.specs.Texts.{up_to, all, value, count_on}
+
+pub all_listed : (p : ℕ → Bool) (s : List ℕ) → list_all p s ≡ all p s
+unfolding all
+all_listed p [] = refl
+all_listed p (b ∷ s) = ap (λ (t : Bool). p b && t) (all_listed p s)
+
+-- the place of the first `stop`, or the length
+up_to_place : (stop : ℕ) (s : List ℕ) → position_or_len (λ b. eqb b stop) s ≡ up_to stop s
+unfolding up_to
+up_to_place stop [] = refl
+up_to_place stop (b ∷ s) = go (eqb b stop) (up_to_place stop s)
+  where
+    go : (t : Bool) {m n : ℕ} → m ≡ n → cond (not t) (1 + m) 0 ≡ cond t 0 (suc n)
+    go true e = refl
+    go false e = omega arith
+
+up_to_le : (stop : ℕ) (s : List ℕ) → up_to stop s ≤ length s
+unfolding up_to
+up_to_le stop [] = omega arith
+up_to_le stop (b ∷ s) = go (eqb b stop) (up_to_le stop s)
+  where
+    go : (t : Bool) {n : ℕ} → n ≤ length s → cond t 0 (suc n) ≤ suc (length s)
+    go true h = omega arith
+    go false h = omega arith
+
+pub upTo-position : (stop : ℕ) (s : List ℕ)
+    → unwrap_or (cond (ltb (position_or_len (λ b. eqb b stop) s) (length s)) (Some (position_or_len (λ b. eqb b stop) s)) None) (length s) ≡ up_to stop s
+upTo-position stop s = rw (up_to_place stop s) (go (ltb (up_to stop s) (length s)) refl)
+  where
+    go : (t : Bool) → ltb (up_to stop s) (length s) ≡ t → unwrap_or (cond t (Some (up_to stop s)) None) (length s) ≡ up_to stop s
+    go true e = refl
+    go false e =
+        let far : length s ≤ up_to stop s = ltb-false (up_to stop s) (length s) e in
+        omega (arith, up_to_le stop s)
 
 module _ (s : List ℕ) (i : ℕ) where
-  pub upTo-here : (stop : ℕ) → i < length s → get_or s i 0 ≡ stop → up_to stop (drop i s) ≡ 0
-  unfolding up_to
-  upTo-here stop h e = rw (drop-cons s i 0 h, eq-eqb (get_or s i 0) stop e)
-
-  pub upTo-on : (stop : ℕ) → i < length s → (get_or s i 0 ≡ stop → ⊥) → up_to stop (drop i s) ≡ suc (up_to stop (drop (i + 1) s))
-  unfolding up_to
-  upTo-on stop h e = rw (drop-cons s i 0 h, ne_eqb (get_or s i 0) stop e, add-one)
-
-  pub upTo-end : (stop : ℕ) → length s ≤ i → up_to stop (drop i s) ≡ 0
-  unfolding up_to
-  upTo-end stop h = rw (drop_of_length-le s {i = i} h)
-
   pub all_here : (p : ℕ → Bool) → i < length s → p (get_or s i 0) ≡ false → all p (drop i s) ≡ false
   unfolding all
   all_here p h e = rw (drop-cons s i 0 h, e)
@@ -47,15 +71,3 @@ module _ (s : List ℕ) (i : ℕ) where
   count-end n h = rw (drop_of_length-le s {i = i} h)
 
 -- ---- decimal digits
-
-pub decimal_here : (b : ℕ) {t : Bool} → t ≡ between 48 57 b → t ≡ false → is_decimal b ≡ false
-unfolding is_decimal
-decimal_here b e f = sym e ∙ f
-
-pub decimal_on : (b : ℕ) {t : Bool} → t ≡ between 48 57 b → t ≡ true → is_decimal b ≡ true
-unfolding is_decimal
-decimal_on b e f = sym e ∙ f
-
--- the value of at most three digits is less than 1,000
-pub three_digits : (n i : ℕ) → n < 10 ^ i → i < 3 → n < 1000
-three_digits n i h k = lt_of_lt_of_le h (pow-le-pow_right {n = 10} (lit< tt) {i = i} {j = 3} (omega arith))

@@ -1,17 +1,17 @@
 -- Texts as lists of bytes (ASCII): the pieces before and after a byte, digits, and numbers written in them.
-use Rattle.std.specs.Prelude.{ℕ, suc, ◌+◌, ◌-◌, ◌*◌, ◌/◌, ◌%◌, Bool, true, false, cond, ◌&&◌, ◌||◌, List, [], ◌∷◌, ◌++◌, leb, ltb, eqb, length, take, drop}
-use Rattle.std.proofs.Math.Option.{Option, none, some}
+use Rattle.std.specs.Prelude.{ℕ, suc, ◌+◌, ◌-◌, ◌*◌, ◌/◌, ◌%◌, Bool, true, false, cond, ◌&&◌, ◌||◌, List, [], ◌∷◌, ◌++◌, Option, Some, None, leb, ltb, eqb, length, take, drop}
+use Rattle.std.specs.Borrow.{Bor}
 use Rattle.std.proofs.Math.Seq.{paste}
 
 -- The value where a test holds, and then what is made of it.
 abbrev pub given : {A : Type 0} → Bool → A → Option A
-given true a = some a
-given false a = none
+given true a = Some a
+given false a = None
 
 infixl 20 ◌>>=◌
 abbrev pub ◌>>=◌ : {A B : Type 0} → Option A → (A → Option B) → Option B
-◌>>=◌ none f = none
-◌>>=◌ (some a) f = f a
+◌>>=◌ None f = None
+◌>>=◌ (Some a) f = f a
 
 -- ---- cut at a byte
 
@@ -27,6 +27,10 @@ pub record Cut : Type 0 where
 -- A text that has a `stop`: what stands before the first one, and what after it.
 unfoldable pub cut : ℕ → List ℕ → Option Cut
 cut stop s = given (ltb (up_to stop s) (length s)) (record { before = take (up_to stop s) s; behind = drop (up_to stop s + 1) s })
+
+-- What two parts that a call lends are.
+abbrev pub cut_in : Bor (List ℕ) × Bor (List ℕ) → Cut
+cut_in parts = record { before = parts.0.now; behind = parts.1.now }
 
 -- ---- digits
 

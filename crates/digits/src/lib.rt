@@ -2,7 +2,9 @@
 #![tactic(auto)]
 
 mod hex;
+mod parts;
 mod scan;
 
 pub use hex::{all_digits, decode, digits_fit, encode};
+pub use parts::cut;
 pub use scan::{between, up_to};

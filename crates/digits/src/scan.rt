@@ -6,19 +6,13 @@ ghost use Rattle.digits.specs.Texts.{up_to, between};
 pub fn up_to(s: &[u8], stop: u8) -> usize
     ensures { result ≡ up_to stop s.now }
 {
-    let mut i = 0;
-    while i < s.len() {
-        if s[i] == stop {
-            return i;
-        }
-        i += 1;
-    }
-    i
+    s.iter().position(|b| *b == stop).unwrap_or(s.len())
 }
 
 // Is the byte from `low` to `high`?
+#[tactic(auto, unfolding(crate::specs::Texts::between))]
 pub fn between(b: u8, low: u8, high: u8) -> bool
     ensures { result ≡ between low high b }
 {
-    if low <= b { b <= high } else { false }
+    (low..=high).contains(&b)
 }

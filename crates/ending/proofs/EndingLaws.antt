@@ -1,16 +1,16 @@
 -- The last two blocks on bytes are a message of two blocks: its last one, of s bytes, stands first in 16, with 00 after
 -- it. Assumes nothing.
-use Prim.Native.Nat.{ℕ, ◌*◌, ◌≤◌}
+use Prim.Native.Nat.{ℕ, ◌+◌, ◌*◌, ◌/◌, ◌≤◌}
 use mathlib.Core.Path.{◌≡◌, refl, sym, ap, ap₂, subst, ◌∙◌}
 use mathlib.Core.Bool.{Bool}
 use mathlib.Core.List.{List, ◌++◌}
 use native.Mathlib.Omega.{arith}
-use lib.ListN.{length, take, drop, length-append, length-drop}
-use lib.Seq.{take_at}
+use lib.ListN.{length, take, drop, length-append, length-take, length-drop}
+use lib.Seq.{take-add, take_at}
 use Rattle.bits.specs.Xor.{xor_bytes}
 use Rattle.bits.specs.Texts.{bits, bytes_for, pack, pack_to, xor_bits}
 use Rattle.bits.specs.Blocks.{Block, BlockCipher}
-use Rattle.bits.proofs.Texts.{bits-append, drop_bits, bits-pack, pack_bytes, length-pack, bytes_for_whole, append_bytes, drop_bytes, pack_to-length, pack_to_bytes, bits-pack_to, bits-pack_to_pad, block-pack-bits}
+use Rattle.bits.proofs.Texts.{length-bits, bits-append, drop_bits, bits-pack, pack_bytes, length-pack, bytes_for_whole, append_bytes, drop_bytes, pack_to-length, pack_to_bytes, bits-pack_to, bits-pack_to_pad, block-pack-bits}
 use Rattle.bits.proofs.Xors.{bits-xor_bytes, xor_bytes-block, take-xor_bits}
 use Rattle.rules.specs.declared.Direction.TheVariants.{Encrypt, Decrypt}
 use Rattle.rules.specs.Rules.{msb, joined}
@@ -18,14 +18,14 @@ use Rattle.rules.specs.Standard.{ciph, ciph_inv}
 use Rattle.modes.proofs.WorkLaws.{aligned}
 use Rattle.ending.specs.declared.Ending.{Ending}
 use Rattle.stolen.specs.Stealing.{filled, before, stolen_text}
-use Rattle.ending.specs.Inner.Endings.{EncryptedBytes, restored_bytes, DecryptedBytes}
+use Rattle.ending.specs.Inner.Endings.{EncryptedBytes, restored_bytes, DecryptedBytes, Ends}
 use Rattle.stolen.proofs.BlockLaws.{Whole}
 use Rattle.stolen.proofs.TailLaws.{Tail}
 use Rattle.stolen.proofs.PartLaws.{two_parts}
 use Rattle.stolen.proofs.WorkedLaws.{chained, regained, encrypted-parts, decrypted-parts}
 
 -- Bits at the front of 16 bytes.
-pub front_block : (x : List Bool) → Block (pack_to 16 x)
+front_block : (x : List Bool) → Block (pack_to 16 x)
 front_block x = record { size = pack_to-length 16 x; bytes = pack_to_bytes 16 x }
 
 filled-bits : (tail : List Bool) → length tail ≤ 128 → bits (pack_to 16 tail) ≡ filled tail
@@ -48,7 +48,7 @@ module _ {enc dec : List ℕ → List ℕ} (ciphers : BlockCipher enc dec) where
   ciph-xor ha hb = ciph-block (xor_bytes-block ha hb) ∙ ap (ciph enc dec) (xor-bits ha hb)
 
   module _ {register : List ℕ} (hr : Block register) {full tail : List Bool} (whole : Whole full) (last : Tail tail) where
-    pub encrypted-ending : {size : ℕ} {r : Ending} → length tail ≡ size → EncryptedBytes enc register (pack_to 16 full) (pack_to 16 tail) r
+    encrypted-ending : {size : ℕ} {r : Ending} → length tail ≡ size → EncryptedBytes enc register (pack_to 16 full) (pack_to 16 tail) r
         → bits r.block ++ take size (bits r.end) ≡ stolen_text enc dec Encrypt register (full ++ tail)
     unfolding joined chained before msb
     encrypted-ending {r = r} here e =
@@ -98,6 +98,27 @@ module _ {enc dec : List ℕ → List ℕ} (ciphers : BlockCipher enc dec) where
         ∙ ap (xor_bits (take (length end) (ciph_inv enc dec block))) (take_at end (drop (length end) (ciph_inv enc dec block)) (length end) refl))
         ∙ sym (decrypted-parts enc dec register (two_parts whole last))
 
-    pub decrypted-ending : {size : ℕ} {r : Ending} → length end ≡ size → DecryptedBytes dec register (pack_to 16 block) (pack_to 16 end) size r
+    decrypted-ending : {size : ℕ} {r : Ending} → length end ≡ size → DecryptedBytes dec register (pack_to 16 block) (pack_to 16 end) size r
         → bits r.block ++ take size (bits r.end) ≡ stolen_text enc dec Decrypt register (block ++ end)
     decrypted-ending {r = r} here = subst (λ (k : ℕ). DecryptedBytes dec register (pack_to 16 block) (pack_to 16 end) k r → bits r.block ++ take k (bits r.end) ≡ stolen_text enc dec Decrypt register (block ++ end)) here by_length
+
+-- ---- the part of the input that the two blocks are
+
+module _ {rounds size : ℕ} {part : List ℕ} (ends : Ends rounds size part) where
+  block-whole : Whole (take 128 (bits part))
+  block-whole = record { size = simp (length-take, length-bits) (omega (arith, ends.there)) }
+
+  end-size : length (take size (drop 128 (bits part))) ≡ size
+  end-size = simp (length-take, length-drop, length-bits) (omega (arith, ends.there))
+
+  end-tail : Tail (take size (drop 128 (bits part)))
+  end-tail = record { some = omega (arith, end-size, ends.some); short = omega (arith, end-size, ends.small) }
+
+  module _ {enc dec : List ℕ → List ℕ} (ciphers : BlockCipher enc dec) {register : List ℕ} (hr : Block register) where
+    pub part-encrypted : {r : Ending} → EncryptedBytes enc register (pack_to 16 (take 128 (bits part))) (pack_to 16 (take size (drop 128 (bits part)))) r
+        → bits r.block ++ take size (bits r.end) ≡ stolen_text enc dec Encrypt register (take (128 + size) (bits part))
+    part-encrypted e = rw (take-add 128) (encrypted-ending ciphers hr block-whole end-tail end-size e)
+
+    pub part-decrypted : {r : Ending} → DecryptedBytes dec register (pack_to 16 (take 128 (bits part))) (pack_to 16 (take size (drop 128 (bits part)))) size r
+        → bits r.block ++ take size (bits r.end) ≡ stolen_text enc dec Decrypt register (take (128 + size) (bits part))
+    part-decrypted e = rw (take-add 128) (decrypted-ending ciphers hr block-whole end-tail (size / 8) (omega (arith, end-size, ends.whole_bytes)) end-size e)

@@ -4,15 +4,14 @@ use mathlib.Core.Path.{◌≡◌, refl, sym, ap, ap₂, ◌∙◌}
 use mathlib.Core.Bool.{Bool, true, false, cond}
 use mathlib.Core.List.{List, ◌++◌}
 use Prim.Native.Nat.{ℕ, zero, suc, ◌+◌, ◌-◌, ◌*◌, ◌/◌, ◌%◌, ◌≤◌, ◌<◌}
-use native.Mathlib.Nat.{zero-lt-suc, le-div_iff_mul-le}
+use native.Mathlib.Nat.{zero-lt-suc}
 use native.Mathlib.Omega.{arith}
 use lib.Dec.{eqb, ltb}
-use lib.ListN.{length, get_or, take, drop, set, get_or-append}
-use lib.Seq.{sets-eq}
+use lib.ListN.{length, get_or, get_or-append}
 use borrow.Author.Tests.{eq-eqb, ne_eqb, lt-ltb, le-ltb}
 use Rattle.bits.specs.Xor.{xor, xor_bytes}
 use Rattle.bits.specs.Blocks.{Bytes}
-use Rattle.bits.proofs.Lists.{spread, listed}
+use Rattle.bits.proofs.Lists.{listed}
 use Rattle.bits.proofs.Texts.{bytes_nil, cons_bytes}
 use Rattle.bits.proofs.Xors.{length-xor_bytes, xor_bytes_bytes}
 use Rattle.boxes.specs.Boxes.{sub_byte, Tabulates}
@@ -26,48 +25,28 @@ pub xor-four : (a b : List ℕ) → length a ≡ 4 → length b ≡ 4 → four (
 unfolding four xor_bytes
 xor-four a b p q = ap₂ xor_bytes (listed 0 4 a p) (listed 0 4 b q)
 
--- a word stored byte by byte
-pub set_word : (w : List ℕ) (at : ℕ) (word : List ℕ) → length word ≡ 4 → at + 4 ≤ length w
-    → set (set (set (set w at (get_or word 0 0)) (at + 1) (get_or word 1 0)) (at + 2) (get_or word 2 0)) (at + 3) (get_or word 3 0)
-    ≡ take at w ++ word ++ drop (at + 4) w
-set_word w at word size h =
-    rw (one, two, three) (sets-eq (spread 4 (λ j. get_or word j 0)) w at h)
-    ∙ ap (λ v. take at w ++ v ++ drop (at + 4) w) (listed 0 4 word size)
-  where
-    one : at + 1 ≡ suc at
-    one = omega arith
-
-    two : at + 2 ≡ suc (suc at)
-    two = omega arith
-
-    three : at + 3 ≡ suc (suc (suc at))
-    three = omega arith
-
 pub table_word : {table t : List ℕ} → Tabulates sub_byte table → Bytes t → four (λ j. get_or table (get_or t j 0) 0) ≡ sub_word t
 unfolding sub_word
 table_word {table} {t} tab h = four_ext _ _ (λ j hj. tab.entry (get_or t j 0) (h.byte j))
 
 -- ---- the cases of `temp`
 
-pub quotient_positive : {nk i : ℕ} → 0 < nk → nk ≤ i → 1 ≤ i / nk
-quotient_positive {nk} {i} p h = (le-div_iff_mul-le p).1 (omega arith)
-
 module _ (nk i : ℕ) (t : List ℕ) where
   pub temp-first : i % nk ≡ 0 → temp nk i t ≡ xor_bytes (sub_word (rot_word t)) (rcon (i / nk))
   unfolding temp
   temp-first e = rw (eq-eqb (i % nk) 0 e)
 
-  pub temp-middle : (i % nk ≡ 0 → ⊥) → 6 < nk → i % nk ≡ 4 → temp nk i t ≡ sub_word t
+  pub temp-middle : 6 < nk → i % nk ≡ 4 → temp nk i t ≡ sub_word t
   unfolding temp
-  temp-middle n h e = rw (ne_eqb (i % nk) 0 n, lt-ltb 6 nk h, eq-eqb (i % nk) 4 e)
+  temp-middle h e = rw (ne_eqb (i % nk) 0 (omega arith), lt-ltb 6 nk h, eq-eqb (i % nk) 4 e) refl
 
-  pub temp-other : (i % nk ≡ 0 → ⊥) → 6 < nk → (i % nk ≡ 4 → ⊥) → temp nk i t ≡ t
+  pub temp-other : (i % nk ≡ 0 → ⊥) → (i % nk ≡ 4 → ⊥) → temp nk i t ≡ t
   unfolding temp
-  temp-other n h e = rw (ne_eqb (i % nk) 0 n, lt-ltb 6 nk h, ne_eqb (i % nk) 4 e)
+  temp-other n m = rw (ne_eqb (i % nk) 0 n, ne_eqb (i % nk) 4 m) (elim (ltb 6 nk) as (λ b. cond b t t ≡ t) [ true ↦ refl | false ↦ refl ])
 
-  pub temp-short : (i % nk ≡ 0 → ⊥) → nk ≤ 6 → temp nk i t ≡ t
+  pub temp-short : nk ≤ 6 → (i % nk ≡ 0 → ⊥) → temp nk i t ≡ t
   unfolding temp
-  temp-short n h = rw (ne_eqb (i % nk) 0 n, le-ltb 6 nk h)
+  temp-short h n = rw (ne_eqb (i % nk) 0 n, le-ltb 6 nk h)
 
   -- what holds of the three results holds of `temp`
   temp-cases : (P : List ℕ → Type 0) → P (xor_bytes (sub_word (rot_word t)) (rcon (i / nk))) → P (sub_word t) → P t → P (temp nk i t)

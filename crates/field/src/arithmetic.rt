@@ -16,12 +16,10 @@ pub fn product(c: u8, b: u8) -> u8
     let mut sum: u8 = 0;
     let mut digits = c;
     let mut term = b;
-    let mut left: usize = 8;
-    while 0 < left {
-        sum = sum ^ (digits % 2 * term);
-        digits = digits / 2;
+    for _ in 0..8u32 {
+        sum ^= digits % 2 * term;
+        digits /= 2;
         term = double(term);
-        left -= 1;
     }
     sum
 }

@@ -1,30 +1,19 @@
 // Four bytes of a row as one number, first byte highest, so that a row is doubled at once.
-ghost use Rattle.std.specs.Prelude.{◌≡◌, ◌+◌, ◌*◌, map, get_or};
+ghost use Rattle.std.specs.Prelude.{◌≡◌, ◌*◌, map, get_or};
 ghost use Rattle.field.specs.Field as Field;
 ghost use Rattle.field.specs.Rows.{four};
 ghost use Rattle.bits.specs.Counter.{number, number_bytes};
 
-fn weighted(a: u8, b: u8, c: u8, d: u8) -> u32
-    ensures { result ≡ a * 16777216 + b * 65536 + c * 256 + d }
-{
-    (a as u32) * 16777216 + (b as u32) * 65536 + (c as u32) * 256 + (d as u32)
-}
-
 pub fn join_row(row: [u8; 4]) -> u32
     ensures { result ≡ number (four (λ i. get_or row i 0)) }
 {
-    weighted(row[0], row[1], row[2], row[3])
+    u32::from_be_bytes(row)
 }
 
 pub fn split_row(x: u32) -> [u8; 4]
     ensures { result ≡ number_bytes 4 x }
 {
-    [
-        (x / 16777216 % 256) as u8,
-        (x / 65536 % 256) as u8,
-        (x / 256 % 256) as u8,
-        (x % 256) as u8,
-    ]
+    x.to_be_bytes()
 }
 
 // Each of the four bytes doubled: the bits that do not leave a byte shift up, and 1b is added to each byte whose

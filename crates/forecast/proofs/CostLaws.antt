@@ -8,7 +8,7 @@ use Rattle.rules.specs.declared.Mode.{Mode}
 use Rattle.rules.specs.Lengths.{unit_length_ok, whole_units}
 use Rattle.rules.specs.Rules.{units_in}
 use Rattle.questions.specs.Questions.{ask, max_bits}
-use Rattle.forecast.specs.declared.Cost.{Cost}
+use Rattle.forecast.specs.Costs.{Cost}
 use Rattle.forecast.specs.Costs.{forecast_questions, forecast_number, ForecastBy}
 
 -- Three times 'yes' is 0.

@@ -20,7 +20,7 @@ use Rattle.modes.proofs.FeedLaws.{asked, accepted-count, accepted-whole, accepte
 use Rattle.modes.proofs.OpeningLaws.{opened-session}
 use Rattle.feeds.proofs.OpenedFeeds.{opened_feeds}
 use Rattle.feeds.proofs.ListLaws.{runs_add_up}
-use Rattle.forecast.specs.declared.Cost.{Cost}
+use Rattle.forecast.specs.Costs.{Cost}
 use Rattle.forecast.specs.Costs.{forecast_number, ForecastBy}
 use Rattle.forecast.specs.Promises.{RefusedForecast, NoBitsFree, AsForecast, ForecastHolds, MessageForecast}
 use Rattle.forecast.proofs.CostLaws.{all_yes, accepted, refused}

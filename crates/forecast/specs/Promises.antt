@@ -12,7 +12,7 @@ use Rattle.modes.specs.declared.session.Opened.{Opened}
 use Rattle.modes.specs.declared.session.Fed.{Fed}
 use Rattle.modes.specs.Sessions.{Arrays, OpenedBy, FedBy, fed_text, session_text}
 use Rattle.feeds.specs.Lists.{Call, Feeds, all_fed, all_runs}
-use Rattle.forecast.specs.declared.Cost.{Cost}
+use Rattle.forecast.specs.Costs.{Cost}
 use Rattle.forecast.specs.Costs.{ForecastBy}
 
 -- ---- a forecast

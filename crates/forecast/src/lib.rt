@@ -3,48 +3,42 @@
 #![tactic(auto)]
 
 ghost use Rattle.std.specs.Prelude.{◌≡◌};
-ghost use Rattle.forecast.specs.Costs.{forecast_number, ForecastBy};
+ghost use Rattle.questions.specs.Refusals.{number_in};
+ghost use Rattle.forecast.specs.Costs.{forecast_number, answered, ForecastBy};
 
+use questions::Refusal;
 use rules::Mode;
 
-// The number, 0 or that of the first question answered 'no', and what an accepted feed costs.
-#[derive(Clone, Copy)]
+// What an accepted feed costs.
+#[derive(Clone, Copy, Debug, PartialEq, Eq)]
 pub struct Cost {
-    pub number: u8,
     pub bytes: usize,
     pub runs: usize,
 }
 
 // Questions 3, 6 and 7 in order. Of question 6 the limit is asked alone, since there is no input.
-fn number(mode: Mode, n: usize, bits: usize) -> u8
-    ensures { result ≡ forecast_number mode n bits }
+#[tactic(auto, unfolding(crate::specs::Costs::forecast_number, crate::specs::Costs::forecast_questions, questions::specs::Questions::ask))]
+fn ask(mode: Mode, n: usize, bits: usize) -> Result<(), Refusal>
+    ensures { number_in result ≡ forecast_number mode n bits }
 {
     if !rules::unit_length_ok(mode, n) {
-        return 3;
+        return Err(Refusal::UnitLength);
     }
     if bits > questions::MAX_BITS {
-        return 6;
+        return Err(Refusal::Bits);
     }
     if !questions::whole_units(mode, n, bits) {
-        return 7;
+        return Err(Refusal::PartUnit);
     }
-    0
+    Ok(())
 }
 
-pub fn forecast(mode: Mode, n: usize, bits: usize) -> Cost
-    ensures { ForecastBy mode n bits result }
+pub fn forecast(mode: Mode, n: usize, bits: usize) -> Result<Cost, Refusal>
+    ensures { ForecastBy mode n bits (answered result) }
 {
-    let answer = number(mode, n, bits);
-    if answer != 0 {
-        return Cost {
-            number: answer,
-            bytes: 0,
-            runs: 0,
-        };
-    }
-    Cost {
-        number: 0,
+    ask(mode, n, bits)?;
+    Ok(Cost {
         bytes: questions::bytes_for(bits),
         runs: questions::units_in(n, bits),
-    }
+    })
 }

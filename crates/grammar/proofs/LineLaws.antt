@@ -1,68 +1,86 @@
--- A line of digits that was found, and what it then is. Assumes nothing.
-use mathlib.Core.Path.{◌≡◌, sym, ap, subst, ◌∙◌}
-use mathlib.Core.List.{List}
-use mathlib.Core.Option.{none, some}
-use Prim.Native.Nat.{ℕ, ◌+◌, ◌-◌, ◌≤◌, ◌<◌}
-use native.Mathlib.Nat.{le_of_lt, add_assoc}
+-- A line that was cut from a text, and a line of digits. Assumes nothing.
+use mathlib.Core.Path.{◌≡◌, refl, sym, ap, ◌∙◌}
+use mathlib.Core.Bool.{Bool, true, false, cond}
+use mathlib.Core.List.{List, [], ◌∷◌, ◌++◌, append_assoc}
+use Prim.Native.Nat.{ℕ, suc, ◌+◌, ◌≤◌, ◌<◌}
 use native.Mathlib.Omega.{arith}
-use mathlib.Core.Bool.{true, false}
-use borrow.Author.Tests.{eq-eqb, ne_eqb}
-use lib.Dec.{eqb}
-use lib.ListN.{length, take, drop, length-drop}
-use lib.Seq.{length-take-le, drop-drop}
-use Rattle.digits.specs.Texts.{given, up_to, digits_fit}
-use Rattle.digits.proofs.CutLaws.{part_rest, cut-none, cut-some}
+use native.Mathlib.Numerals.{add-one}
+use borrow.Author.Tests.{ltb-true, eqb-true}
+use lib.Dec.{ltb, eqb}
+use lib.ListN.{length, take, drop}
+use Rattle.std.proofs.lemmas.List.{nil_from_length}
+use Rattle.std.proofs.lemmas.Bool.Decides.{nat_tests}
+use Rattle.std.specs.Prelude.{Option, None, Some, option_map}
+use Rattle.digits.specs.Texts.{given, ◌>>=◌, up_to, Cut, cut, digits_fit, hex_bytes}
 use Rattle.digits.proofs.DigitLaws.{fit_size}
-use Rattle.grammar.specs.declared.form.Digits.{Digits}
-use Rattle.grammar.specs.Grammar.{hex_line}
-use Rattle.grammar.specs.Answers.{bytes_at, line_in, LineFits, LinePlaced, LineRead}
+use Rattle.grammar.specs.Grammar.{HexLine, hex_line}
+use Rattle.grammar.specs.Answers.{digits_line}
+use Rattle.grammar.proofs.SizeLaws.{given_true, bound}
 
--- ---- a line of digits, `len` bytes from `start` on: `rest` is the part that was searched
+-- ---- a line of digits and its bytes
 
-abbrev pub rest : List ℕ → ℕ → List ℕ
-rest s start = take (length s - start) (drop start s)
+abbrev bytes_of : Cut → HexLine
+bytes_of line = record { bytes = hex_bytes line.before; behind = line.behind }
 
-pub rest_inside : (s : List ℕ) (start len : ℕ) → len < length (rest s start) → start + len < length s
-rest_inside s start len h = omega (arith, simp (part_rest, length-drop) at h)
+pub hex_digits : (limit : ℕ) (s : List ℕ) → hex_line limit s ≡ option_map bytes_of (digits_line limit s)
+unfolding hex_line digits_line
+hex_digits limit s = by-cut (cut 10 s)
+  where
+    by-test : (t : Bool) (line : Cut) → given t (bytes_of line) ≡ option_map bytes_of (given t line)
+    by-test true line = refl
+    by-test false line = refl
 
-pub fit_front : (limit : ℕ) (s : List ℕ) (len : ℕ) → digits_fit limit (take len s) ≡ true → len < length s → len ≤ limit
-fit_front limit s len fit h = rw (length-take-le len s (le_of_lt h)) at (fit_size limit (take len s) fit)
+    by-cut : (o : Option Cut)
+        → (o >>= (λ line. given (digits_fit limit line.before) (bytes_of line))) ≡ option_map bytes_of (o >>= (λ line. given (digits_fit limit line.before) line))
+    by-cut None = refl
+    by-cut (Some line) = by-test (digits_fit limit line.before) line
 
-module _ (limit : ℕ) (s : List ℕ) (start len : ℕ) (e : len ≡ up_to 10 (rest s start)) where
-  pub found : len ≡ up_to 10 (drop start s)
-  found = rw part_rest at e
+-- ---- what stands before a line feed, and after it
 
-  pub no_line : length (rest s start) ≤ len → hex_line limit (drop start s) ≡ none
-  unfolding hex_line
-  no_line h = rw (cut-none 10 (drop start s) len found (rw part_rest at h))
+pub record Ended (s : List ℕ) (line : Cut) : Type 0 where
+  pub front : line.before ≡ take (up_to 10 s) s
+  pub text : s ≡ line.before ++ (10 ∷ line.behind)
+  pub whole : up_to 10 line.before ≡ length line.before
 
-  pub hexLine-is : len < length (rest s start)
-      → hex_line limit (drop start s)
-      ≡ given (digits_fit limit (take len (drop start s))) (record { bytes = bytes_at s start len; behind = drop (start + len + 1) s })
-  unfolding hex_line
-  hexLine-is h =
-      let inside : len < length (drop start s) = rw part_rest at h in
-      rw (cut-some 10 (drop start s) len found inside, drop-drop, add_assoc)
+abbrev cut_there : List ℕ → Cut
+cut_there s = record { before = take (up_to 10 s) s; behind = drop (up_to 10 s + 1) s }
 
--- ---- what the answers show
+ended : (s : List ℕ) → up_to 10 s < length s → Ended s (cut_there s)
+unfolding up_to
+ended [] h = absurd (omega arith)
+ended (b ∷ s) h = by-test (eqb b 10) refl (ended s) h
+  where
+    by-test : (t : Bool) → eqb b 10 ≡ t → (up_to 10 s < length s → Ended s (cut_there s)) → cond t 0 (suc (up_to 10 s)) < suc (length s)
+        → Ended (b ∷ s) (record { before = take (cond t 0 (suc (up_to 10 s))) (b ∷ s); behind = drop (cond t 0 (suc (up_to 10 s)) + 1) (b ∷ s) })
+    by-test true e next h = record { front = rw e; text = ap (λ x. x ∷ s) (eqb-true b 10 e); whole = refl }
+    by-test false e next h =
+        let rest = next (omega arith) in
+        record { front = rw e; text = rw add-one (ap (λ x. b ∷ x) (rw add-one at rest.text)); whole = rw e (ap suc rest.whole) }
 
-module _ {limit : ℕ} {s : List ℕ} {start : ℕ} {r : Digits} (h : LineRead limit s start r) where
-  pub line_read : {len next : ℕ} → r ≡ Digits.Line len next → hex_line limit (drop start s) ≡ some (record { bytes = bytes_at s start len; behind = drop next s })
-  line_read e = sym h.line ∙ ap (line_in s start) e
+pub cut_ended : (s : List ℕ) {line : Cut} → cut 10 s ≡ Some line → Ended s line
+unfolding cut
+cut_ended s e =
+    let (inside, is) = given_true (ltb (up_to 10 s) (length s)) {a = cut_there s} e in
+    rw (← is) (ended s (ltb-true (up_to 10 s) (length s) inside))
 
-  pub line-fits : {len next : ℕ} → r ≡ Digits.Line len next → LineFits limit s start (Digits.Line len next)
-  line-fits e = subst (LineFits limit s start) e h.fits
+-- four lines in a row, and nothing after them
+pub in_a_row : {s : List ℕ} {first key iv message : Cut} → Ended s first → Ended first.behind key → Ended key.behind iv → Ended iv.behind message
+    → true ≡ eqb (length message.behind) 0
+    → s ≡ take (up_to 10 s) s ++ (10 ∷ key.before) ++ (10 ∷ iv.before) ++ (10 ∷ message.before) ++ (10 ∷ [])
+in_a_row f k i m e =
+    rw (← f.front) (f.text ∙ rw (k.text, i.text, m.text, nil_from_length _ (eqb-true _ 0 (sym e))) (simp append_assoc))
 
-  pub line-places : {len next : ℕ} → r ≡ Digits.Line len next → LinePlaced s start (Digits.Line len next)
-  line-places e = subst (LinePlaced s start) e h.places
+-- What is known of a line of digits that was read.
+pub record Digits (limit : ℕ) (s : List ℕ) (line : Cut) : Type 0 where
+  pub ended : Ended s line
+  pub fits : length line.before ≤ limit
 
-  pub line-bad : r ≡ Digits.Bad → hex_line limit (drop start s) ≡ none
-  line-bad e = sym h.line ∙ ap (line_in s start) e
+pub digits_read : (limit : ℕ) (s : List ℕ) {line : Cut} → digits_line limit s ≡ Some line → Digits limit s line
+unfolding digits_line
+digits_read limit s e =
+    bound (cut 10 s) e
+    (λ line found e.
+    let (fit, is) = given_true (digits_fit limit line.before) {a = line} e in
+    rw (← is) (record { ended = cut_ended s found; fits = fit_size limit line.before fit }))
 
--- ---- the place after the last line
-
-pub nothing : (s : List ℕ) {next : ℕ} → next ≡ length s → eqb (length (drop next s)) 0 ≡ true
-nothing s {next} e = eq-eqb (length (drop next s)) 0 (simp length-drop (omega arith))
-
-pub something : (s : List ℕ) {next : ℕ} → next ≤ length s → (next ≡ length s → ⊥) → eqb (length (drop next s)) 0 ≡ false
-something s {next} h e = ne_eqb (length (drop next s)) 0 (λ z. e (omega (arith, simp length-drop at z)))
+pub ruleset read = (hex_digits, nat_tests)

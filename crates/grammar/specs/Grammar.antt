@@ -5,12 +5,12 @@
 --     hex    = an even count of digits 0 to 9, a to f, then LF; at most 128 (key), 128 (IV), 8,192 (data)
 --
 -- A line feed is byte 10. No line holds one, so each line ends at the first line feed.
-use Rattle.std.specs.Prelude.{ℕ, List, eqb, length}
-use Rattle.std.proofs.Math.Option.{Option}
+use Rattle.std.specs.Prelude.{ℕ, List, Option, eqb, length}
 use Rattle.rules.specs.declared.Mode.{Mode}
 use Rattle.rules.specs.declared.Direction.{Direction}
 use Rattle.digits.specs.Texts.{given, ◌>>=◌, cut, digits_fit, hex_bytes}
-use Rattle.header.specs.Header.{First, first_of}
+use Rattle.header.specs.declared.line.Header.{Header}
+use Rattle.header.specs.Header.{first_of}
 
 -- ---- the lines of digits
 
@@ -42,7 +42,7 @@ pub record Request : Type 0 where
   pub message : List ℕ
 
 -- What follows the first line: key, IV, data, and nothing more.
-unfoldable pub behind_first : First → List ℕ → Option Request
+unfoldable pub behind_first : Header → List ℕ → Option Request
 behind_first first s = do
   key ← hex_line max_key_digits s
   iv ← hex_line max_key_digits key.behind

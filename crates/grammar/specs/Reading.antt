@@ -1,15 +1,10 @@
 -- Document 01, "The text program": "a line that isn't of this form ends the program's reading". Whether it has ended,
 -- of the bytes read so far: at a line that is complete and not of its form, at one that is too long for it before it is
 -- complete, and at a byte after the fourth line. An open line is asked for its length alone.
-use Rattle.std.specs.Prelude.{ℕ, ◌≡◌, Bool, true, false, cond, not, List, [], ◌∷◌, ltb, length, get_or}
-use Rattle.std.proofs.Math.Option.{Option, none, some}
+use Rattle.std.specs.Prelude.{ℕ, ◌≡◌, Bool, true, false, cond, not, List, [], ◌∷◌, Option, None, Some, is_some, ltb, length}
 use Rattle.digits.specs.Texts.{Cut, cut, digits_fit}
 use Rattle.header.specs.Header.{first_of}
 use Rattle.grammar.specs.Grammar.{max_key_digits, max_data_digits, request}
-
-abbrev pub is_some : {A : Type 0} → Option A → Bool
-is_some none = false
-is_some (some a) = true
 
 -- A line, without its line feed: the most bytes that it has, and whether it is of its form.
 pub record LineForm : Type 0 where
@@ -26,14 +21,10 @@ digits_form limit = record { most = limit; good = digits_fit limit }
 unfoldable pub text_lines : List LineForm
 text_lines = first_form ∷ digits_form max_key_digits ∷ digits_form max_key_digits ∷ digits_form max_data_digits ∷ []
 
--- The form of a line, counted from 0.
-abbrev pub line_form : ℕ → LineForm
-line_form line = get_or text_lines line (digits_form max_data_digits)
-
 -- What is said of the line that a text begins with: while it is open, and once it is complete.
 abbrev pub by_cut : Option Cut → Bool → (Cut → Bool) → Bool
-by_cut none still complete = still
-by_cut (some c) still complete = complete c
+by_cut None still complete = still
+by_cut (Some c) still complete = complete c
 
 -- Has reading ended, where these lines are due?
 unfoldable pub ends_in : List LineForm → List ℕ → Bool

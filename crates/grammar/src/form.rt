@@ -1,10 +1,10 @@
 // The four lines.
-ghost use Rattle.std.specs.Prelude.{◌+◌, ◌≤◌, length, drop};
-ghost use Rattle.digits.specs.Texts.{up_to};
-ghost use Rattle.grammar.specs.Grammar.{behind_first, request};
-ghost use Rattle.grammar.specs.Answers.{LineRead, FormRead};
+ghost use Rattle.std.specs.Prelude.{◌≡◌, option_map, IfSome};
+ghost use Rattle.digits.specs.Texts.{cut_in};
+ghost use Rattle.grammar.specs.Grammar.{request};
+ghost use Rattle.grammar.specs.Answers.{digits_line, request_in, Fits, Placed};
 
-use digits::{digits_fit, up_to};
+use digits::{cut, digits_fit};
 use header::{Header, first_line};
 use rules::{Direction, Mode};
 
@@ -14,100 +14,47 @@ pub const MAX_KEY_DIGITS: usize = 128;
 // The most digits of the data's line.
 pub const MAX_DATA_DIGITS: usize = 8192;
 
-// A line of digits: how many they are, and the index after the line feed.
-#[derive(Clone, Copy)]
-pub enum Digits {
-    Line { len: usize, next: usize },
-    Bad,
+// The first line's words, and the digits of each other line.
+#[derive(Clone, Copy, PartialEq, Eq, Debug)]
+pub struct Request<'a> {
+    pub mode: Mode,
+    pub n: usize,
+    pub direction: Direction,
+    pub key: &'a [u8],
+    pub iv: &'a [u8],
+    pub data: &'a [u8],
 }
 
-// The first line's words, and for each other line where its digits start and how many they are.
-#[derive(Clone, Copy)]
-pub enum Form {
-    Lines {
-        mode: Mode,
-        n: usize,
-        direction: Direction,
-        key: usize,
-        key_len: usize,
-        iv: usize,
-        iv_len: usize,
-        data: usize,
-        data_len: usize,
-    },
-    Bad,
-}
-
-// The line that starts at an index of `s`, as digits: lower-case hexadecimal, an even count, at most `limit`.
-fn digits_line(s: &[u8], start: usize, limit: usize) -> Digits
-    requires { start ≤ length s.now }
-    ensures { LineRead limit s.now start result }
+// The line that a text begins with, as digits: lower-case hexadecimal, an even count, at most `limit`; and what follows
+// the line.
+#[tactic(auto, unfolding(crate::specs::Answers::digits_line))]
+fn digits_line(s: &[u8], limit: usize) -> Option<(&[u8], &[u8])>
+    ensures { option_map cut_in result ≡ digits_line limit s.now }
 {
-    let rest = &s[start..];
-    let len = up_to(rest, b'\n');
-    if rest.len() <= len {
-        return Digits::Bad;
-    }
-    if !digits_fit(&rest[..len], limit) {
-        return Digits::Bad;
-    }
-    Digits::Line {
-        len,
-        next: start + len + 1,
-    }
+    let (line, rest) = cut(s, b'\n')?;
+    digits_fit(line, limit).then_some((line, rest))
 }
 
-// The key, the IV and the data, and nothing after them.
-fn behind_first(mode: Mode, n: usize, direction: Direction, s: &[u8], key: usize) -> Form
-    requires { key ≤ length s.now }
-    ensures { FormRead s.now key (behind_first (record { mode = mode; n = n; direction = direction }) (drop key s.now)) result }
+#[tactic(auto, using(crate::proofs::LineLaws::read), unfolding(crate::specs::Grammar::request, crate::specs::Grammar::behind_first))]
+pub fn parse(input: &[u8]) -> Option<Request<'_>>
+    ensures form { option_map request_in result ≡ request input.now }
+    ensures fits { IfSome result Fits }
+    ensures places { IfSome result (Placed input.now) }
 {
-    let Digits::Line {
-        len: key_len,
-        next: iv,
-    } = digits_line(s, key, MAX_KEY_DIGITS)
-    else {
-        return Form::Bad;
-    };
-    let Digits::Line {
-        len: iv_len,
-        next: data,
-    } = digits_line(s, iv, MAX_KEY_DIGITS)
-    else {
-        return Form::Bad;
-    };
-    let Digits::Line {
-        len: data_len,
-        next: end,
-    } = digits_line(s, data, MAX_DATA_DIGITS)
-    else {
-        return Form::Bad;
-    };
-    if end != s.len() {
-        return Form::Bad;
+    let (line, rest) = cut(input, b'\n')?;
+    let Header { mode, n, direction } = first_line(line)?;
+    let (key, rest) = digits_line(rest, MAX_KEY_DIGITS)?;
+    let (iv, rest) = digits_line(rest, MAX_KEY_DIGITS)?;
+    let (data, rest) = digits_line(rest, MAX_DATA_DIGITS)?;
+    if !rest.is_empty() {
+        return None;
     }
-    Form::Lines {
+    Some(Request {
         mode,
         n,
         direction,
         key,
-        key_len,
         iv,
-        iv_len,
         data,
-        data_len,
-    }
-}
-
-pub fn parse(input: &[u8]) -> Form
-    ensures { FormRead input.now (up_to 10 input.now + 1) (request input.now) result }
-{
-    let end = up_to(input, b'\n');
-    if input.len() <= end {
-        return Form::Bad;
-    }
-    let Header::Line { mode, n, direction } = first_line(&input[..end]) else {
-        return Form::Bad;
-    };
-    behind_first(mode, n, direction, input, end + 1)
+    })
 }

@@ -4,5 +4,5 @@
 mod form;
 mod reading;
 
-pub use form::{Form, MAX_DATA_DIGITS, MAX_KEY_DIGITS, parse};
+pub use form::{MAX_DATA_DIGITS, MAX_KEY_DIGITS, Request, parse};
 pub use reading::reading_ends;

@@ -1,65 +1,62 @@
 // Document 01: "a line that isn't of this form ends the program's reading".
 ghost use Rattle.std.specs.Prelude.{◌≡◌};
-ghost use Rattle.grammar.specs.Reading.{first_form, line_form, reading_ends};
+ghost use Rattle.grammar.specs.Reading.{reading_ends};
+ghost use Rattle.grammar.specs.Answers.{form_of};
 
 use crate::form::{MAX_DATA_DIGITS, MAX_KEY_DIGITS};
-use digits::{digits_fit, up_to};
-use header::{Header, first_line};
+use digits::{cut, digits_fit};
+use header::first_line;
 
-// The most bytes of a line, counted from 0, without its line feed.
-fn most(line: usize) -> usize
-    ensures { result ≡ (line_form line).most }
-{
-    if line == 0 {
-        return 9;
-    }
-    if line < 3 {
-        return MAX_KEY_DIGITS;
-    }
-    MAX_DATA_DIGITS
+// The form of a line; of a line of digits the most that it has.
+#[derive(Clone, Copy, PartialEq, Eq, Debug)]
+enum Line {
+    First,
+    Digits(usize),
 }
 
-fn first_good(text: &[u8]) -> bool
-    ensures { result ≡ first_form.good text.now }
-{
-    let Header::Line {
-        mode: _,
-        n: _,
-        direction: _,
-    } = first_line(text)
-    else {
-        return false;
-    };
-    true
-}
+// The first line, the key, the IV and the data.
+const LINES: [Line; 4] = [
+    Line::First,
+    Line::Digits(MAX_KEY_DIGITS),
+    Line::Digits(MAX_KEY_DIGITS),
+    Line::Digits(MAX_DATA_DIGITS),
+];
 
-// Is the text, without its line feed, of the form of a line?
-fn good(line: usize, text: &[u8]) -> bool
-    ensures { result ≡ (line_form line).good text.now }
-{
-    if line == 0 {
-        return first_good(text);
+impl Line {
+    // The most bytes that it has, without its line feed.
+    fn most(self) -> usize
+        ensures { result ≡ (form_of self).most }
+    {
+        match self {
+            Line::First => 9,
+            Line::Digits(limit) => limit,
+        }
     }
-    digits_fit(text, most(line))
+
+    // Is the text, without its line feed, of the form?
+    fn good(self, text: &[u8]) -> bool
+        ensures { result ≡ (form_of self).good text.now }
+    {
+        match self {
+            Line::First => first_line(text).is_some(),
+            Line::Digits(limit) => digits_fit(text, limit),
+        }
+    }
 }
 
 // Has a line ended the reading? Then no text that begins this way is of the form, whatever follows.
 pub fn reading_ends(front: &[u8]) -> bool
     ensures { result ≡ reading_ends front.now }
 {
-    let mut line = 0;
-    let mut start = 0;
-    while line < 4 {
-        let rest = &front[start..];
-        let len = up_to(rest, b'\n');
-        if rest.len() <= len {
-            return most(line) < rest.len();
-        }
-        if !good(line, &rest[..len]) {
+    let mut rest = front;
+    for line in LINES {
+        let Some((text, behind)) = cut(rest, b'\n') else {
+            return line.most() < rest.len();
+        };
+        if !line.good(text) {
             return true;
         }
-        start += len + 1;
-        line += 1;
+        rest = behind;
     }
-    start < front.len()
+    !rest.is_empty()
 }

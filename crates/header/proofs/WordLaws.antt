@@ -3,11 +3,14 @@
 use mathlib.Core.Path.{◌≡◌, refl, ap}
 use mathlib.Core.Bool.{Bool, true, false, ◌&&◌}
 use mathlib.Core.List.{List, [], ◌∷◌}
-use Prim.Native.Nat.{ℕ, suc, ◌-◌}
-use lib.Dec.{eqb}
+use Prim.Native.Nat.{ℕ, suc, ◌-◌, ◌≤◌}
+use borrow.Author.Tests.{le-leb}
+use lib.Dec.{eqb, leb}
 use lib.ListN.{length, get_or}
+use Rattle.std.proofs.lemmas.Bool.Decides.{nat_tests}
 use Rattle.bits.proofs.Lists.{listed}
-use Rattle.digits.specs.Texts.{between, value}
+use Rattle.digits.specs.Texts.{is_decimal, between, value}
+use Rattle.digits.proofs.ScanLaws.{all_here, all-on, all_end, count-on, count-end}
 use Rattle.header.specs.Header.{same}
 
 and_true : (a : Bool) → (a && true) ≡ a
@@ -35,6 +38,16 @@ pub same_three : (w : List ℕ) (a b c : ℕ) → length w ≡ 3
 unfolding same
 same_three w a b c h = rw (← listed 0 3 w h) (ap (λ (t : Bool). eqb (get_or w 0 0) a && (eqb (get_or w 1 0) b && t)) (and_true _))
 
-pub decimal_value : (b : ℕ) → between 48 57 b ≡ true → value b ≡ b - 48
-unfolding value
-decimal_value b e = rw e
+-- What decides whether a word is a name.
+pub ruleset spelled = (nat_tests, same-other, same_one, same_three)
+
+pub decimal_test : (b : ℕ) → is_decimal b ≡ (leb 48 b && leb b 57)
+unfolding is_decimal between
+decimal_test b = refl
+
+pub decimal_value : (b : ℕ) → 48 ≤ b → b ≤ 57 → value b ≡ b - 48
+unfolding value between
+decimal_value b low high = rw (le-leb 48 b low, le-leb b 57 high) refl
+
+-- A word read digit by digit.
+pub ruleset counted = (nat_tests, decimal_test, decimal_value, all_here, all-on, all_end, count-on, count-end)

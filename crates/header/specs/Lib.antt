@@ -1,3 +1,2 @@
--- The words of the first line, and what the answers of the code stand for.
+-- The words of the first line.
 pub mod Header
-pub mod Answers

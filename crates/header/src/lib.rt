@@ -5,4 +5,4 @@ mod line;
 mod words;
 
 pub use line::{Header, first_line};
-pub use words::{DirectionWord, ModeWord, direction_word, mode_word};
+pub use words::{direction_word, mode_word};

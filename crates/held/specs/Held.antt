@@ -1,6 +1,7 @@
 -- A session as C holds it: the same parts, with numbers in place of mode, direction and closing.
-use Rattle.std.specs.Prelude.{ℕ, Bool, cond, not, eqb, replicate}
-use Rattle.rules.specs.Numbers.{mode_number, mode_of, is_decrypt, direction_of}
+use Rattle.std.specs.Prelude.{ℕ, ◌<◌, ◌≤◌, ◌≡◌, Bool, cond, not, eqb, replicate, Result, Ok, Err}
+use Rattle.rules.specs.declared.numbers.NoMode.{NoMode}
+use Rattle.rules.specs.Numbers.{modes, mode_number, mode_of, is_decrypt, direction_of}
 use Rattle.modes.specs.declared.session.Session.{Session}
 use Rattle.held.specs.declared.form.HeldSession.{HeldSession}
 use Rattle.held.specs.declared.form.HeldSession32.{HeldSession32}
@@ -29,6 +30,11 @@ session_of h =
       units = h.units;
       closed = is_set h.closed;
     }
+
+-- A struct with a mode's number is read as the session that it stands for, and any other as none.
+abbrev pub StandsFor : HeldSession → Result Session NoMode → Type 0
+StandsFor h (Ok s) = (h.mode < modes) × (s ≡ session_of h)
+StandsFor h (Err none) = modes ≤ h.mode
 
 -- The spare bytes are 0.
 unfoldable pub held_of : Session → HeldSession

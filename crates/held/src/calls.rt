@@ -4,6 +4,7 @@ ghost use Rattle.held.specs.Calls.{HeldOpenedBy, HeldFedBy};
 use crate::form;
 use crate::form::HeldSession;
 use modes::Session;
+use rules::Mode;
 
 // The number where a mode's number is no mode's: it is none of the questions'.
 pub const NO_MODE: usize = 64;
@@ -27,19 +28,17 @@ pub struct HeldFed {
 pub fn open(mode: usize, decrypting: u8, n: usize, m: usize, key: &[u8], iv: &[u8]) -> HeldOpened
     ensures { HeldOpenedBy mode decrypting n m key.now iv.now result }
 {
-    if mode >= rules::MODES {
+    let Ok(own) = Mode::try_from(mode) else {
         return HeldOpened {
-            session: form::held_of(Session::refused()),
+            session: Session::refused().into(),
             number: NO_MODE,
         };
-    }
+    };
     let direction = rules::direction_of(form::is_set(decrypting));
-    let opened = Session::open_counter(rules::mode_of(mode), direction, n, m, key, iv);
-    let session = opened.session;
-    let number = opened.number as usize;
+    let opened = Session::open_counter(own, direction, n, m, key, iv);
     HeldOpened {
-        session: form::held_of(session),
-        number,
+        session: opened.session.into(),
+        number: opened.number.into(),
     }
 }
 
@@ -47,28 +46,22 @@ pub fn open(mode: usize, decrypting: u8, n: usize, m: usize, key: &[u8], iv: &[u
 pub fn feed(held: HeldSession, input: &[u8], bits: usize, out: &mut [u8], place: usize) -> HeldFed
     ensures { HeldFedBy held input.now bits out.old place result out.new }
 {
-    if held.mode >= rules::MODES {
+    let Ok(session) = Session::try_from(held) else {
         return HeldFed {
             session: held,
             runs: 0,
             number: NO_MODE,
         };
-    }
-    let session = form::session_of(held);
+    };
     let fed = session.feed(input, bits, out, place);
-    let runs = fed.runs;
-    let number = fed.number as usize;
-    if number != 0 {
-        return HeldFed {
-            session: held,
-            runs,
-            number,
-        };
-    }
-    let next = fed.session;
+    let next = if fed.number == 0 {
+        form::moved(held, fed.session)
+    } else {
+        held
+    };
     HeldFed {
-        session: form::moved(held, next),
-        runs,
-        number,
+        session: next,
+        runs: fed.runs,
+        number: fed.number.into(),
     }
 }

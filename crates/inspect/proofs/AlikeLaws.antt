@@ -6,8 +6,17 @@ use mathlib.Core.List.{List}
 use native.Mathlib.Nat.{le_of_eq}
 use native.Mathlib.Omega.{arith}
 use borrow.Author.Tests.{eq-eqb, eqb-true}
+use denote.Enum.Bare.{sameb}
+use denote.Enum.Declared.{tag_of}
+use lib.Dec.{eqb}
 use lib.ListN.{length, take}
 use lib.Seq.{take_all}
+use Rattle.rules.specs.declared.Mode.{Mode}
+use Rattle.rules.specs.declared.Mode.TheVariants.{Ecb, Cbc, Cfb, Ofb, Ctr}
+use Rattle.rules.specs.declared.Direction.{Direction}
+use Rattle.rules.specs.declared.Direction.TheVariants.{Encrypt, Decrypt}
+use Rattle.rules.specs.contracts.Mode as mode
+use Rattle.rules.specs.contracts.Direction as direction
 use Rattle.rules.specs.Numbers.{mode_number, mode_of, is_decrypt, direction_of}
 use Rattle.rules.proofs.NumberLaws.{mode_again, direction_again}
 use Rattle.modes.specs.declared.session.Session.{Session}
@@ -16,9 +25,29 @@ use Rattle.modes.specs.Sessions.{Arrays}
 use Rattle.inspect.specs.Promises.{AlikeExactly}
 use Rattle.inspect.proofs.SameLaws.{same-means, means-same}
 
+-- ---- `==` at modes and at directions, which the test has by their numbers and flags
+
+tag_mode : (m : Mode) → tag_of mode.the_type m ≡ mode_number m
+unfolding mode_number
+tag_mode Ecb = refl
+tag_mode Cbc = refl
+tag_mode Cfb = refl
+tag_mode Ofb = refl
+tag_mode Ctr = refl
+
+pub modes_equal : (m k : Mode) → sameb mode.the_type m k ≡ eqb (mode_number m) (mode_number k)
+modes_equal m k = rw (tag_mode m, tag_mode k) refl
+
+pub directions_equal : (d e : Direction) → sameb direction.the_type d e ≡ beq (is_decrypt d) (is_decrypt e)
+unfolding is_decrypt
+directions_equal Encrypt Encrypt = refl
+directions_equal Encrypt Decrypt = refl
+directions_equal Decrypt Encrypt = refl
+directions_equal Decrypt Decrypt = refl
+
 -- ---- the whole test
 
-pub keys_inside : (rounds : ℕ) → keys_used rounds ≤ 240
+keys_inside : (rounds : ℕ) → keys_used rounds ≤ 240
 unfolding keys_used
 keys_inside rounds = omega arith
 

@@ -1,38 +1,16 @@
--- The first bytes of two lists, compared from the last back: a turn, and what the comparison means. Assumes nothing.
-use Prim.Native.Nat.{ℕ, zero, suc, ◌-◌, ◌≤◌, ◌<◌}
+-- What the comparison of the first bytes of two lists means, and `==` of them as that comparison. Assumes nothing.
+use Prim.Native.Nat.{ℕ, zero, suc, ◌≤◌}
 use mathlib.Core.Path.{◌≡◌, refl, sym, ap, ap₂, ◌∙◌}
-use mathlib.Core.Bool.{true, false, and-eq-true_iff}
+use mathlib.Core.Bool.{Bool, true, false, and-eq-true_iff}
 use mathlib.Core.List.{List, [], ◌∷◌, ◌++◌}
-use native.Mathlib.Nat.{le_refl, le_of_lt}
+use native.Mathlib.Nat.{le_refl, le_of_lt, le_of_eq}
 use native.Mathlib.Omega.{arith}
-use borrow.Author.Tests.{eq-eqb, ne_eqb, eqb-true}
+use borrow.Author.Tests.{eq-eqb, eqb-true}
 use lib.Dec.{eqb}
 use lib.ListN.{length, get_or, take}
-use lib.Seq.{take-suc, take-take, get_or-take}
+use lib.Pointwise.{pointwise, bytes_decides}
+use lib.Seq.{take_all, take-suc, take-take, get_or-take}
 use Rattle.inspect.specs.Alike.{same_first}
-
--- ---- a turn of the comparison, from the last byte back
-
-module _ (a b : List ℕ) where
-  pub same_left : (n : ℕ) → 0 < n → get_or a (n - 1) 0 ≡ get_or b (n - 1) 0 → same_first n a b ≡ same_first (n - 1) a b
-  unfolding same_first
-  same_left zero some e = absurd (omega arith)
-  same_left (suc n) some e =
-      let f : suc n - 1 ≡ n = omega arith in
-      rw f (rw (eq-eqb (get_or a n 0) (get_or b n 0) (rw f at e)))
-
-  pub differ-left : (n : ℕ) → 0 < n → (get_or a (n - 1) 0 ≡ get_or b (n - 1) 0 → ⊥) → same_first n a b ≡ false
-  unfolding same_first
-  differ-left zero some e = absurd (omega arith)
-  differ-left (suc n) some e =
-      let f : suc n - 1 ≡ n = omega arith in
-      rw (ne_eqb (get_or a n 0) (get_or b n 0) (rw f at e))
-
-  pub none_differ : same_first 0 a b ≡ true
-  unfolding same_first
-  none_differ = refl
-
--- ---- what the comparison means
 
 module _ (a b : List ℕ) where
   pub same-means : (k : ℕ) → k ≤ length a → k ≤ length b → same_first k a b ≡ true → take k a ≡ take k b
@@ -53,3 +31,20 @@ module _ (a b : List ℕ) where
             (sym (get_or-take (suc k) a k 0 (le_refl (suc k))) ∙ ap (λ (l : List ℕ). get_or l k 0) e ∙ get_or-take (suc k) b k 0 (le_refl (suc k))),
         means-same k (sym (take-take k (suc k) a (omega arith)) ∙ ap (take k) e ∙ take-take k (suc k) b (omega arith)),
       )
+
+-- ---- `==` at slices
+
+both : (r s : Bool) → (r ≡ true → s ≡ true) → (s ≡ true → r ≡ true) → r ≡ s
+both true s f g = sym (f refl)
+both false true f g = g refl
+both false false f g = refl
+
+pub first_equal : (k : ℕ) (a b : List ℕ) → k ≤ length a → k ≤ length b → pointwise eqb (take k a) (take k b) ≡ same_first k a b
+first_equal k a b ha hb =
+    let (same, equal) = bytes_decides (take k a) (take k b) in
+    both (pointwise eqb (take k a) (take k b)) (same_first k a b) (λ e. means-same a b k (same e)) (λ e. equal (same-means a b k ha hb e))
+
+pub whole_equal : (k : ℕ) (a b : List ℕ) → length a ≡ k → length b ≡ k → pointwise eqb a b ≡ same_first k a b
+whole_equal k a b ha hb =
+    ap₂ (pointwise eqb) (sym (take_all k a (le_of_eq ha))) (sym (take_all k b (le_of_eq hb)))
+    ∙ first_equal k a b (le_of_eq (sym ha)) (le_of_eq (sym hb))

@@ -1,68 +1,32 @@
 // Whether two sessions are alike. Their units and their closing are not compared.
-ghost use Rattle.std.specs.Prelude.{◌≡◌, ◌≤◌, length};
-ghost use Rattle.inspect.specs.Alike.{keys_used, same_first, same_settings, alike_to};
+ghost use Rattle.std.specs.Prelude.{◌≡◌};
+ghost use Rattle.inspect.specs.Alike.{keys_used, same_settings, alike_to};
 
 use modes::Session;
 
 // How many round key bytes are compared. The rounds may be any number.
+#[tactic(auto, unfolding(crate::specs::Alike::keys_used))]
 fn keys_used(rounds: usize) -> usize
     ensures { result ≡ keys_used rounds }
 {
-    if rounds < 14 {
-        Session::BLOCK * (rounds + 1)
-    } else {
-        240
-    }
+    Session::BLOCK * (rounds.min(14) + 1)
 }
 
-fn same_first(a: &[u8], b: &[u8], count: usize) -> bool
-    requires { (count ≤ length a.now) × (count ≤ length b.now) }
-    ensures { result ≡ same_first count a.now b.now }
-{
-    let mut left = count;
-    while left > 0 {
-        left -= 1;
-        if a[left] != b[left] {
-            return false;
-        }
-    }
-    true
-}
-
+#[tactic(auto, using(crate::proofs::AlikeLaws::modes_equal, crate::proofs::AlikeLaws::directions_equal), unfolding(crate::specs::Alike::same_settings))]
 fn same_settings(a: Session, b: Session) -> bool
     ensures { result ≡ same_settings a b }
 {
-    let mode = a.mode;
-    let other_mode = b.mode;
-    if rules::mode_number(mode) != rules::mode_number(other_mode) {
-        return false;
-    }
-    let direction = a.direction;
-    let other_direction = b.direction;
-    if rules::decrypts(direction) != rules::decrypts(other_direction) {
-        return false;
-    }
-    if a.n != b.n {
-        return false;
-    }
-    if a.m != b.m {
-        return false;
-    }
-    a.rounds == b.rounds
+    a.mode == b.mode
+        && a.direction == b.direction
+        && a.n == b.n
+        && a.m == b.m
+        && a.rounds == b.rounds
 }
 
+#[tactic(auto, using(crate::proofs::SameLaws::first_equal, crate::proofs::SameLaws::whole_equal), unfolding(crate::specs::Alike::alike_to, crate::specs::Alike::keys_used))]
 pub fn alike(a: Session, b: Session) -> bool
     ensures { result ≡ alike_to a b }
 {
-    if !same_settings(a, b) {
-        return false;
-    }
-    let keys = a.keys;
-    let other_keys = b.keys;
-    if !same_first(&keys, &other_keys, keys_used(a.rounds)) {
-        return false;
-    }
-    let register = a.register;
-    let other_register = b.register;
-    same_first(&register, &other_register, Session::BLOCK)
+    let used = keys_used(a.rounds);
+    same_settings(a, b) && a.keys[..used] == b.keys[..used] && a.register == b.register
 }

@@ -1,10 +1,10 @@
 -- One feed of all the data's bits, and the line that it gives. Assumes nothing.
 use mathlib.Core.Path.{◌≡◌, sym, ap, ◌∙◌}
-use mathlib.Core.List.{List, [], ◌++◌, append-nil}
+use mathlib.Core.List.{List, [], append-nil}
 use Prim.Native.Nat.{ℕ, ◌+◌, ◌*◌, ◌/◌, ◌≤◌, ◌<◌}
 use native.Mathlib.Omega.{arith}
 use borrow.Author.Tests.{eq-eqb, le-leb}
-use lib.ListN.{length, take, drop, length-append, drop_of_length-le}
+use lib.ListN.{length, take, drop, drop_of_length-le, replicate}
 use lib.Seq.{take_at}
 use Rattle.bits.specs.Texts.{bytes_for, pack}
 use Rattle.bits.proofs.Texts.{length-pack, bytes_for_whole}
@@ -24,10 +24,6 @@ pub decoded : (s out : List ℕ) {l : List ℕ} → length s / 2 ≤ length out 
 unfolding decoded_into
 decoded s out room e =
     rw (e, le-leb (length s / 2) (length out) room) (take_at (hex_bytes s) (drop (length s / 2) out) (length s / 2) (length-hex_bytes s))
-
--- a front of n bytes is there, whatever comes after it
-pub front_there : (l rest : List ℕ) {n : ℕ} → length l ≡ n → n ≤ length (l ++ rest)
-front_there l rest e = simp length-append (omega arith)
 
 -- What is known of a feed of all the bits of a message of n bytes.
 pub record WholeFeed (s : Session) (message : List ℕ) (n : ℕ) (r : Fed) (after : List ℕ) : Type 0 where
@@ -75,7 +71,12 @@ module _ {s : Session} {message out after : List ℕ} {r : Fed} (arrays : Arrays
         accepted = accepted-feed;
       }
 
--- The same of the n bytes that were lent.
-pub whole_feed : {s : Session} {message input out after : List ℕ} {n : ℕ} {r : Fed} → Arrays s → input ≡ message → length message ≡ n → length out ≡ n
-    → FedBy s input (n * 8) out 0 r after → WholeFeed s message n r after
-whole_feed arrays is bytes room fed = rw bytes at (known arrays (room ∙ sym bytes) (rw (is, ← bytes) at fed))
+-- The same of the bytes that were decoded to the front of an array of 4,096, and lent.
+pub whole_feed : {s : Session} (digits : List ℕ) {input out after : List ℕ} {r : Fed} → Arrays s → length digits / 2 ≤ 4096
+    → input ≡ decoded_into digits (replicate 4096 0) → length out ≡ length digits / 2
+    → FedBy s (take (length digits / 2) input) (length digits / 2 * 8) out 0 r after
+    → WholeFeed s (hex_bytes digits) (length digits / 2) r after
+whole_feed digits arrays few read room fed =
+    let bytes = length-hex_bytes digits in
+    let is = decoded digits (replicate 4096 0) few read in
+    rw bytes at (known arrays (room ∙ sym bytes) (rw (is, ← bytes) at fed))

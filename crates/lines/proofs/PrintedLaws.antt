@@ -3,7 +3,7 @@
 use mathlib.Core.Path.{◌≡◌, refl}
 use mathlib.Core.Bool.{Bool, true, false, cond}
 use mathlib.Core.List.{List, [], ◌∷◌}
-use mathlib.Core.Option.{Option, none, some}
+use Rattle.std.specs.Prelude.{Option, None, Some}
 use Prim.Native.Nat.{ℕ, ◌+◌, ◌-◌, ◌*◌, ◌≤◌, ◌<◌}
 use native.Mathlib.Omega.{arith}
 use borrow.Author.Tests.{leb-false, le-leb}
@@ -96,21 +96,21 @@ request-line q few =
 
 -- The form bounds the data.
 abbrev Few : Option Request → Type 0
-Few o = (q : Request) → o ≡ some q → length q.message ≤ 4096
+Few o = (q : Request) → o ≡ Some q → length q.message ≤ 4096
 
 answered : (o : Option Request) → Few o → Printed (answer_to o)
 unfolding answer_to
-answered none few = form_refused
-answered (some q) few = (request-line q (few q refl)).0
+answered None few = form_refused
+answered (Some q) few = (request-line q (few q refl)).0
 
 pub prints_one_of_six : PrintsOneOfSix
 unfolding PrintsOneOfSix answer_bytes
 prints_one_of_six input = answered (request input) (λ q e. message_size input e)
 
-only_without_form : (line : List ℕ) → get_or line 1 0 ≡ 50 → (o : Option Request) → Few o → answer_to o ≡ line → o ≡ none
+only_without_form : (line : List ℕ) → get_or line 1 0 ≡ 50 → (o : Option Request) → Few o → answer_to o ≡ line → o ≡ None
 unfolding answer_to
-only_without_form line two none few e = refl
-only_without_form line two (some q) few e = absurd (let low : get_or line 1 0 ≤ 32 = rw e at (request-line q (few q refl)).1 in omega arith)
+only_without_form line two None few e = refl
+only_without_form line two (Some q) few e = absurd (let low : get_or line 1 0 ≤ 32 = rw e at (request-line q (few q refl)).1 in omega arith)
 
 pub not_formed_exactly : NotFormedExactly
 unfolding NotFormedExactly answer_bytes answer_to line_of decimal_text digit

@@ -1,7 +1,6 @@
 -- Document 01, "The text program": what it prints, for every input. The form is asked before all else, then it opens,
 -- then it feeds all the data's bits at once, into as many bytes as the data has.
-use Rattle.std.specs.Prelude.{ℕ, ◌*◌, ◌≡◌, ◌↔◌, true, cond, List, [], ◌∷◌, ◌++◌, eqb, length, take, drop}
-use Rattle.std.proofs.Math.Option.{Option, none, some}
+use Rattle.std.specs.Prelude.{ℕ, ◌*◌, ◌≡◌, ◌↔◌, true, cond, List, [], ◌∷◌, ◌++◌, Option, None, Some, eqb, length, take, drop}
 use Rattle.bits.specs.Texts.{pack}
 use Rattle.questions.specs.Questions.{not_formed}
 use Rattle.modes.specs.declared.session.Session.{Session}
@@ -27,8 +26,8 @@ request_line q =
 
 -- Number 12 is a text that is not of the form.
 unfoldable pub answer_to : Option Request → List ℕ
-answer_to none = line_of not_formed []
-answer_to (some q) = request_line q
+answer_to None = line_of not_formed []
+answer_to (Some q) = request_line q
 
 unfoldable pub answer_bytes : List ℕ → List ℕ
 answer_bytes input = answer_to (request input)
@@ -56,7 +55,7 @@ PrintsOneOfSix = (input : List ℕ) → Printed (answer_bytes input)
 
 -- 12 is answered exactly where the text does not have the form.
 unfoldable pub NotFormedExactly : Type 0
-NotFormedExactly = (input : List ℕ) → (answer_bytes input ≡ line_of not_formed []) ↔ (request input ≡ none)
+NotFormedExactly = (input : List ℕ) → (answer_bytes input ≡ line_of not_formed []) ↔ (request input ≡ None)
 
 -- A text written to the front of `out`: how long it is, and the bytes past it as they were.
 pub record Wrote (text out : List ℕ) (r : ℕ) (after : List ℕ) : Type 0 where

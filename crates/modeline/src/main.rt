@@ -16,10 +16,7 @@ fn read_on(mut from: Stdin, input: &mut [u8], done: usize) -> usize
     requires { done ≤ length input.old }
     ensures { done + result ≤ length input.new }
 {
-    match from.read(&mut input[done..]) {
-        Ok(count) => count,
-        Err(_) => 0,
-    }
+    from.read(&mut input[done..]).unwrap_or(0)
 }
 
 // Reads until the bytes that are there decide the answer (`EndDecides` of `lines`), the input ends or `input` is full.
@@ -27,6 +24,7 @@ fn read_text(from: Stdin, input: &mut [u8]) -> usize
     ensures within { result ≤ length input.new }
     ensures whole { result ≡ length (take result input.new) }
 {
+    // A turn adds as many bytes as one read gives, so no `for` can count the turns.
     let mut done = 0;
     while done < input.len() {
         let more = read_on(from, input, done);
@@ -41,17 +39,12 @@ fn read_text(from: Stdin, input: &mut [u8]) -> usize
     done
 }
 
-// The digit of a line that is one digit and a line feed; 0 for any other.
-fn single(line: &[u8]) -> u8 {
-    if line.len() == 2 { line[0] } else { 0 }
-}
-
 // The answer, and why it is a refusal.
 fn print(mut to: Stdout, errors: Stderr, input: &[u8], line: &[u8]) -> io::Result<()> {
     to.write_all(line)?;
     // Where standard error takes no words, the answer stands.
     words::say_reason(errors, reasons::reason(input)).ok();
-    words::say_number(errors, single(line)).ok();
+    words::say_number(errors, line).ok();
     Ok(())
 }
 

@@ -19,14 +19,6 @@ use Rattle.modes.specs.Sessions.{open_number, opened_session, refused_session, O
 
 -- ---- open
 
-pub key_no : (key : List ℕ) → (key_number key ≡ 0 → ⊥) → key_ok key ≡ false
-unfolding key_number
-key_no key h = go (key_ok key) h
-  where
-    go : (b : Bool) → (◌≡◌ {A = ℕ} (cond b 0 1) 0 → ⊥) → b ≡ false
-    go true h = absurd (h refl)
-    go false h = refl
-
 pub key_yes : (key : List ℕ) → key_number key ≡ 0 → key_ok key ≡ true
 unfolding key_number
 key_yes key e = go (key_ok key) e

@@ -12,7 +12,7 @@ use lib.Seq.{drop-drop, take-nil, take_all}
 use Rattle.bits.specs.Texts.{bits, byte_of, pack, pack_to, bytes_for, put_bits}
 use Rattle.bits.specs.Blocks.{Bytes, Block, BlockCipher}
 use Rattle.bits.proofs.Packed.{pack_to_nil}
-use Rattle.bits.proofs.Texts.{pack_to-bits, length-bits, drop_bits, length-pack, take-bits_packed, put_after}
+use Rattle.bits.proofs.Texts.{pack_to-bits, length-bits, drop_bits, take-bits_packed, put_after}
 use Rattle.rules.specs.declared.Mode.{Mode}
 use Rattle.rules.specs.declared.Mode.TheVariants.{Ecb, Cbc, Cfb, Ofb, Ctr}
 use Rattle.rules.specs.Rules.{start, unit_at, units_in}
@@ -197,17 +197,6 @@ module _ {mode : Mode} {dir : Direction} {n rounds : ℕ} {keys input : List ℕ
   pub none-through : Through mode dir n m rounds keys register input count old 0 (record { register = register; runs = 0 }) old
   unfolding register_at joined pack pack_to bytes_for
   none-through = record { runs_now = refl; register_now = refl; out_now = refl }
-
-  pub through-length : (t : ℕ) → t ≤ units_in n count → {r : Progress} {out : List ℕ} → Through mode dir n m rounds keys register input count old t r out → length out ≡ length old
-  through-length t h {out = out} s =
-      let l : length out ≡ length (pack (joined t become) ++ drop (bytes_for (length (joined t become))) old) = ap length s.out_now in
-      let m : length (pack (joined t become)) ≡ bytes_for (length (joined t become)) = length-pack (joined t become) in
-      let f : bytes_for (length (joined t become)) ≤ bytes_for count = fewer (length (joined t become)) count (omega (arith, become-length t h)) in
-      omega (arith, l, length-append (pack (joined t become)) (drop (bytes_for (length (joined t become))) old), length-drop (bytes_for (length (joined t become))) old, m, f, w.room)
-
-  pub still-workable : {out : List ℕ} → length out ≡ length old → Workable mode n input count out
-  still-workable e =
-      record { unit_length = w.unit_length; whole = w.whole; within = w.within; small = w.small; room = rw e w.room }
 
   pub one-through : (t : ℕ) → t < units_in n count → {r unit : Progress} {before out after : List ℕ} → Through mode dir n m rounds keys register input count old t r out
       → UnitWorked f mode dir n m before input count out t unit after → before ≡ r.register

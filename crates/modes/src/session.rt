@@ -3,8 +3,10 @@ ghost use Rattle.std.specs.Prelude.{◌+◌, ◌≤◌, ◌<◌, ◌≡◌};
 ghost use Rattle.rules.specs.Rules.{units_in};
 ghost use Rattle.questions.specs.Questions.{max_units};
 ghost use Rattle.modes.specs.Sessions.{OpenedBy, FedBy, refused_session, moved_session};
+ghost use Rattle.modes.specs.Inner.Openings.{opened_in};
 
 use crate::work;
+use questions::{Lent, Refusal};
 use rules::{Direction, Mode};
 
 // A session, as document 01 lists it, and m. `n` is the unit's bits, `m` those of the counter, `register` is R.
@@ -22,7 +24,8 @@ pub struct Session {
 }
 
 // What an opening and a feed give: the number, 0 or that of the first question answered 'no', and the session. Of a
-// feed also the runs of the block cipher that it made.
+// feed also the runs of the block cipher that it made. No `Result`: a refusal gives a session too, and document 01 has
+// the number beside it.
 #[derive(Clone, Copy)]
 pub struct Opened {
     pub number: u8,
@@ -47,6 +50,7 @@ impl Session {
     pub const MAX_UNITS: u64 = questions::MAX_UNITS;
 
     // What a refused opening gives.
+    #[tactic(auto, unfolding(crate::specs::Sessions::refused_session))]
     pub fn refused() -> Session
         ensures { result ≡ refused_session }
     {
@@ -81,19 +85,31 @@ impl Session {
     ) -> Opened
         ensures { OpenedBy mode direction n m key.now iv.now result }
     {
-        let answer = questions::open_number(mode, n, m, key, iv);
-        if answer != 0 {
-            return Opened {
-                number: answer,
+        match Session::try_open(mode, direction, n, m, key, iv) {
+            Ok(session) => Opened { number: 0, session },
+            Err(refusal) => Opened {
+                number: refusal.into(),
                 session: Session::refused(),
-            };
+            },
         }
-        let schedule = aes::expand(key);
+    }
+
+    fn try_open(
+        mode: Mode,
+        direction: Direction,
+        n: usize,
+        m: usize,
+        key: &[u8],
+        iv: &[u8],
+    ) -> Result<Session, Refusal>
+        ensures { OpenedBy mode direction n m key.now iv.now (opened_in result) }
+    {
+        questions::ask_open(mode, n, m, key, iv)?;
+        let schedule = aes::expand(key)?;
+        let keys = schedule.keys;
         // The IV, and zero bytes where there is none.
         let register = bits::window(iv, 0, questions::BLOCK_BITS);
-        let keys = schedule.keys;
-        let units: u64 = 0;
-        let session = Session {
+        Ok(Session {
             mode,
             direction,
             n,
@@ -101,10 +117,9 @@ impl Session {
             rounds: schedule.rounds,
             keys,
             register,
-            units,
+            units: 0,
             closed: false,
-        };
-        Opened { number: 0, session }
+        })
     }
 
     // The session after an accepted feed of `bits` bits, which left R as `register`.
@@ -112,21 +127,11 @@ impl Session {
         requires { (0 < self.n) × (self.units + units_in self.n bits ≤ max_units) }
         ensures { result ≡ moved_session self register bits }
     {
-        let mode = self.mode;
-        let direction = self.direction;
-        let keys = self.keys;
-        let done = self.units + questions::units_in(self.n, bits) as u64;
-        let rest = bits % self.n;
         Session {
-            mode,
-            direction,
-            n: self.n,
-            m: self.m,
-            rounds: self.rounds,
-            keys,
             register,
-            units: done,
-            closed: rest != 0,
+            units: self.units + questions::units_in(self.n, bits) as u64,
+            closed: bits % self.n != 0,
+            ..self
         }
     }
 
@@ -134,31 +139,31 @@ impl Session {
     pub fn feed(self, input: &[u8], bits: usize, out: &mut [u8], place: usize) -> Fed
         ensures { FedBy self input.now bits out.old place result out.new }
     {
-        let mode = self.mode;
-        let number = questions::feed_number(
-            mode,
+        let lent = Lent {
+            bytes: input.len(),
+            bits,
+            size: out.len(),
+            place,
+        };
+        if let Err(refusal) = questions::ask_feed(
+            self.mode,
             self.rounds,
             self.n,
             self.m,
             self.closed,
             self.units,
-            input.len(),
-            bits,
-            out.len(),
-            place,
-        );
-        if number != 0 {
+            lent,
+        ) {
             return Fed {
-                number,
+                number: refusal.into(),
                 session: self,
                 runs: 0,
             };
         }
         let worked = work::work(self, input, bits, &mut out[place..]);
-        let next = worked.register;
         Fed {
             number: 0,
-            session: self.moved(next, bits),
+            session: self.moved(worked.register, bits),
             runs: worked.runs,
         }
     }

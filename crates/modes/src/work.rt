@@ -1,5 +1,5 @@
 // The loop over a feed's units.
-ghost use Rattle.std.specs.Prelude.{◌≡◌, true, ◌<◌, min};
+ghost use Rattle.std.specs.Prelude.{◌≡◌, true, ◌<◌};
 ghost use Rattle.cipher.specs.Cipher.{rounds_ok};
 ghost use Rattle.rules.specs.Rules.{units_in};
 ghost use Rattle.prepared.specs.Prepared.{prepared_block};
@@ -7,6 +7,7 @@ ghost use Rattle.modes.specs.Inner.Works.{Workable, RunsUnder, UnitWorked, Worke
 
 use crate::session::Session;
 use prepared::Prepared;
+use units::{Rule, Step};
 
 // What units leave: R after them, and the runs of the block function that they took.
 #[derive(Clone, Copy)]
@@ -15,41 +16,29 @@ pub struct Progress {
     pub runs: usize,
 }
 
-fn smaller(a: usize, b: usize) -> usize
-    ensures { result ≡ min a b }
-{
-    if a < b { a } else { b }
-}
-
 // Processes the feed's unit t from R before it, on the part of the input that begins at the byte holding its first bit.
 fn work_unit(
-    session: Session,
-    prepared: &Prepared,
+    rule: &Rule,
+    n: usize,
     register: [u8; 16],
     input: &[u8],
     bits: usize,
     out: &mut [u8],
     t: usize,
 ) -> Progress
-    requires { Workable session.mode session.n input.now bits out.old × (t < units_in session.n bits) }
-    ensures { UnitWorked (prepared_block prepared.now) session.mode session.direction session.n session.m register input.now bits out.old t result out.new }
+    requires { Workable rule.now.mode n input.now bits out.old × (t < units_in n bits) }
+    ensures { UnitWorked (prepared_block rule.now.prepared.now) rule.now.mode rule.now.direction n rule.now.m register input.now bits out.old t result out.new }
 {
-    let mode = session.mode;
-    let direction = session.direction;
-    let n = session.n;
-    let m = session.m;
     let at = t * n;
-    let size = smaller(n, bits - at);
+    let size = n.min(bits - at);
     let a = at / 8;
-    let part = &input[a..];
-    let step = units::turn(mode, direction, prepared, register, part, at % 8, size, m);
-    let text = step.out;
+    let Step {
+        out: text,
+        register,
+        runs,
+    } = rule.turn(register, &input[a..], at % 8, size);
     bits::put_bits(out, at, text, size);
-    let next = step.register;
-    Progress {
-        register: next,
-        runs: step.runs,
-    }
+    Progress { register, runs }
 }
 
 // Processes all units, one after the other, by what was prepared, and adds up their runs.
@@ -63,23 +52,29 @@ fn work_units(
     requires { Workable session.mode session.n input.now bits out.old × RunsUnder session.rounds session.keys session.mode session.direction (prepared_block prepared.now) }
     ensures { Worked session.mode session.direction session.n session.m session.rounds session.keys session.register input.now bits out.old result out.new }
 {
-    let units = questions::units_in(session.n, bits);
-    let first = session.register;
-    let mut done = Progress {
-        register: first,
-        runs: 0,
+    let rule = Rule {
+        mode: session.mode,
+        direction: session.direction,
+        m: session.m,
+        prepared,
     };
-    let mut t: usize = 0;
-    while t < units {
-        let before = done.register;
-        let unit = work_unit(session, prepared, before, input, bits, out, t);
-        let next = unit.register;
-        let runs = done.runs + unit.runs;
+    let units = questions::units_in(session.n, bits);
+    let register = session.register;
+    let mut done = Progress { register, runs: 0 };
+    for t in 0..units {
+        let Progress { register, runs } = work_unit(
+            &rule,
+            session.n,
+            done.register,
+            input,
+            bits,
+            out,
+            t,
+        );
         done = Progress {
-            register: next,
-            runs,
+            register,
+            runs: done.runs + runs,
         };
-        t += 1;
     }
     done
 }
@@ -90,11 +85,8 @@ pub fn work(session: Session, input: &[u8], bits: usize, out: &mut [u8]) -> Prog
     requires { Workable session.mode session.n input.now bits out.old × (rounds_ok session.rounds ≡ true) }
     ensures { Worked session.mode session.direction session.n session.m session.rounds session.keys session.register input.now bits out.old result out.new }
 {
-    let mode = session.mode;
-    let direction = session.direction;
-    let keys = session.keys;
-    let dec = units::runs_dec(mode, direction);
+    let decrypting = units::runs_dec(session.mode, session.direction);
     let mut words = [0; prepared::WORDS];
-    prepared::prepare(dec, session.rounds, &keys, &mut words);
+    prepared::prepare(decrypting, session.rounds, &session.keys, &mut words);
     work_units(session, &words, input, bits, out)
 }

@@ -1,10 +1,10 @@
 -- What pad and unpad answer: where the number is 0 and where it is not. Assumes nothing.
 use Prim.Native.Nat.{ℕ, ◌-◌, ◌*◌, ◌%◌, ◌≤◌, ◌<◌}
-use mathlib.Core.Path.{◌≡◌, sym, ◌∙◌}
-use mathlib.Core.Bool.{true, false}
+use mathlib.Core.Path.{◌≡◌, sym}
+use mathlib.Core.Bool.{true}
 use mathlib.Core.List.{List}
 use native.Mathlib.Omega.{arith}
-use borrow.Author.Tests.{eq-eqb, ne_eqb}
+use borrow.Author.Tests.{eq-eqb}
 use lib.Dec.{eqb}
 use lib.ListN.{length}
 use Rattle.bits.specs.Texts.{bytes_for}
@@ -31,16 +31,10 @@ pad_taken bytes count size place e =
     let (q6, (q8, end)) = (accepted_exactly (pad_questions bytes count size place) (omega arith)).0 e in
     record { there = bits_there _ _ _ q6; limit = bits_small _ _ _ q6; inside = room_inside _ _ _ q8; room = room_there _ _ _ q8 }
 
-module _ (input : List ℕ) (count : ℕ) (out : List ℕ) (place : ℕ) {number : ℕ} (asked : number ≡ pad_number (length input) count (length out) place) where
-  pub pad-refused : (number ≡ 0 → ⊥) → PaddedBy input count out place (record { number = number; bits = 0 }) out
-  pad-refused some =
-      let e : eqb (pad_number (length input) count (length out) place) 0 ≡ false = rw (← asked) (ne_eqb number 0 some) in
-      record { answer = asked; size = rw e; output = rw e }
-
-  pub pad-accepted : number ≡ 0 → {size : ℕ} {after : List ℕ} → size ≡ padded_length count
-      → after ≡ written out place (padded (fed_text input count)) → PaddedBy input count out place (record { number = 0; bits = size }) after
-  pad-accepted none size_is after_is =
-      let zero : pad_number (length input) count (length out) place ≡ 0 = sym asked ∙ none in
+module _ (input : List ℕ) (count : ℕ) (out : List ℕ) (place : ℕ) (zero : pad_number (length input) count (length out) place ≡ 0) where
+  pub pad-accepted : {size : ℕ} {after : List ℕ} → size ≡ padded_length count → after ≡ written out place (padded (fed_text input count))
+      → PaddedBy input count out place (record { number = 0; bits = size }) after
+  pad-accepted size_is after_is =
       let e : eqb (pad_number (length input) count (length out) place) 0 ≡ true = eq-eqb _ 0 zero in
       let there = (pad_taken (length input) count (length out) place zero).there in
       record {
@@ -67,14 +61,8 @@ pub unpad_takes : (bytes count : ℕ) → 0 < count → count % 128 ≡ 0 → co
 unfolding unpad_number unpad_questions ask
 unpad_takes bytes count some whole there limit = rw (taken max_bits bytes count limit (omega arith), whole-blocks count (omega arith) whole)
 
-module _ (input : List ℕ) (count : ℕ) {number : ℕ} (asked : number ≡ unpad_number (length input) count) where
-  pub unpad-refused : (number ≡ 0 → ⊥) → UnpaddedBy input count (record { number = number; bits = 0 })
-  unpad-refused some =
-      let e : eqb (unpad_number (length input) count) 0 ≡ false = rw (← asked) (ne_eqb number 0 some) in
-      record { answer = asked; size = rw e }
-
-  pub unpad-accepted : number ≡ 0 → {size : ℕ} → size ≡ unpadded_length (fed_text input count) → UnpaddedBy input count (record { number = 0; bits = size })
-  unpad-accepted none size_is =
-      let zero : unpad_number (length input) count ≡ 0 = sym asked ∙ none in
+module _ (input : List ℕ) (count : ℕ) (zero : unpad_number (length input) count ≡ 0) where
+  pub unpad-accepted : {size : ℕ} → size ≡ unpadded_length (fed_text input count) → UnpaddedBy input count (record { number = 0; bits = size })
+  unpad-accepted size_is =
       let e : eqb (unpad_number (length input) count) 0 ≡ true = eq-eqb _ 0 zero in
       record { answer = sym zero; size = rw e size_is }

@@ -13,7 +13,7 @@ use Rattle.bits.specs.Texts.{bit, byte_bits, bits}
 use Rattle.bits.proofs.Texts.{length-bits, bits-append}
 use Rattle.questions.specs.Questions.{ask, bits_ok, max_bits}
 use Rattle.modes.specs.Sessions.{fed_text}
-use Rattle.padding.specs.declared.strip.Unpadded.{Unpadded}
+use Rattle.padding.specs.Padding.{Unpadded}
 use Rattle.padding.specs.Padding.{up_to_last_one, last_block, unpadded_length, whole_blocks, unpad_questions, unpad_number, UnpaddedBy}
 use Rattle.padding.specs.Promises.{UnpadInLastBlock, UnpadCuts, UnpadByLastBlock, ZeroBlockAs80, UnpadNever10}
 use Rattle.padding.proofs.PadLaws.{length_fed}

@@ -1,11 +1,11 @@
--- Questions 6, 7 and 8 by the tests that the code makes. Assumes nothing.
-use Prim.Native.Nat.{ℕ, ◌+◌, ◌-◌, ◌*◌, ◌/◌, ◌%◌, ◌≤◌}
+-- Questions 6 and 7 in plain numbers. Assumes nothing.
+use Prim.Native.Nat.{ℕ, ◌+◌, ◌*◌, ◌/◌, ◌%◌, ◌≤◌}
 use mathlib.Core.Path.{◌≡◌}
-use mathlib.Core.Bool.{true, false, and-false}
+use mathlib.Core.Bool.{true}
 use native.Mathlib.Omega.{arith}
 use lib.Dec.{leb, eqb}
-use borrow.Author.Tests.{le-leb, leb-true, eq-eqb, ne_eqb, eqb-true}
-use Rattle.questions.specs.Questions.{bits_ok, room_ok}
+use borrow.Author.Tests.{le-leb, leb-true, eq-eqb, eqb-true}
+use Rattle.questions.specs.Questions.{bits_ok}
 use Rattle.questions.proofs.QuestionLaws.{both_true}
 use Rattle.padding.specs.Padding.{whole_blocks}
 
@@ -13,19 +13,6 @@ module _ (limit bytes count : ℕ) where
   pub taken : count ≤ limit → (count + 7) / 8 ≤ bytes → bits_ok limit bytes count ≡ true
   unfolding bits_ok
   taken h there = rw (le-leb count (8 * bytes) (omega arith), le-leb count limit h)
-
-module _ (size place bytes : ℕ) where
-  pub room : place ≤ size → bytes ≤ size - place → room_ok size place bytes ≡ true
-  unfolding room_ok
-  room h enough = rw (le-leb place size h, le-leb bytes (size - place) enough)
-
-pub no_bits : (count : ℕ) → count ≡ 0 → whole_blocks count ≡ false
-unfolding whole_blocks
-no_bits count h = rw h
-
-pub broken_block : (count : ℕ) → (count % 128 ≡ 0 → ⊥) → whole_blocks count ≡ false
-unfolding whole_blocks
-broken_block count h = rw (ne_eqb (count % 128) 0 h) (and-false (leb 1 count))
 
 pub whole-blocks : (count : ℕ) → (count ≡ 0 → ⊥) → count % 128 ≡ 0 → whole_blocks count ≡ true
 unfolding whole_blocks

@@ -1,5 +1,5 @@
 -- A padded text: its length, the bytes that hold it, and what writing it leaves. Assumes nothing.
-use Prim.Native.Nat.{ℕ, zero, suc, ◌+◌, ◌-◌, ◌*◌, ◌/◌, ◌%◌, ◌≤◌, ◌<◌}
+use Prim.Native.Nat.{ℕ, zero, suc, ◌+◌, ◌-◌, ◌*◌, ◌%◌, ◌≤◌, ◌<◌}
 use mathlib.Core.Path.{◌≡◌, refl, ap}
 use mathlib.Core.Bool.{Bool, true, false}
 use mathlib.Core.List.{List, ◌∷◌, ◌++◌}
@@ -19,10 +19,6 @@ use Rattle.padding.specs.Padding.{zeros_for, padded, padded_length, max_pad_bits
 pub padded_whole : (n : ℕ) → padded_length n % 128 ≡ 0
 unfolding padded_length zeros_for
 padded_whole n = omega arith
-
-pub bytes_padded : (n : ℕ) → bytes_for (padded_length n) ≡ padded_length n / 8
-unfolding bytes_for
-bytes_padded n = omega (arith, padded_whole n)
 
 pub padded_limit : (n : ℕ) → n ≤ max_pad_bits → padded_length n ≤ max_bits
 unfolding padded_length zeros_for
@@ -57,7 +53,7 @@ mark_bits count =
     let e : 128 - count % 128 ≡ suc (127 - count % 128) = omega arith in
     rw e (ones_first (127 - count % 128) (omega arith))
 
-pub more_bytes : (count : ℕ) → bytes_for count ≤ bytes_for (padded_length count)
+more_bytes : (count : ℕ) → bytes_for count ≤ bytes_for (padded_length count)
 unfolding padded_length bytes_for
 more_bytes count = omega arith
 

@@ -9,7 +9,7 @@ use lib.Dec.{eqb}
 use lib.ListN.{length, drop}
 use Rattle.bits.specs.Texts.{bytes_for}
 use Rattle.modes.specs.Sessions.{fed_text, written}
-use Rattle.padding.specs.declared.strip.Unpadded.{Unpadded}
+use Rattle.padding.specs.Padding.{Unpadded}
 use Rattle.padding.specs.Padding.{zeros_for, padded, padded_length, max_pad_bits, pad_number, unpadded_length, unpad_number, UnpaddedBy}
 use Rattle.padding.specs.Promises.{PaddedWhole, UnpadsPadded, PadRefusedUnchanged, UnpadRefusedZero, UnpadAfterPad}
 use Rattle.padding.proofs.PadLaws.{length-padded, padded_whole, padded_limit, length_fed, written-fed, written-there}

@@ -1,11 +1,26 @@
 -- Document 01, "Padding, one block, comparison", as request 02 changed it, and questions 6, 7 and 8 for pad and unpad:
 -- the number, the length in bits and every byte of the output, for all arguments.
-use Rattle.std.specs.Prelude.{ℕ, zero, suc, pred, ◌+◌, ◌-◌, ◌%◌, ◌≡◌, Bool, true, false, cond, ◌&&◌, List, [], ◌∷◌, ◌++◌, eqb, leb, length, get_or, drop, replicate}
+use Rattle.std.specs.Prelude.{ℕ, zero, suc, pred, ◌+◌, ◌-◌, ◌%◌, ◌≡◌, Bool, true, false, cond, ◌&&◌, List, [], ◌∷◌, ◌++◌, eqb, leb, length, get_or, drop, replicate, Result, Ok, Err}
 use Rattle.bits.specs.Texts.{bytes_for}
 use Rattle.questions.specs.Questions.{Question, ask, max_bits, bits_there, room}
+use Rattle.questions.specs.declared.refusal.Refusal.{Refusal}
+use Rattle.questions.specs.Refusals.{number_of}
 use Rattle.modes.specs.Sessions.{fed_text, written}
-use Rattle.padding.specs.declared.append.Padded.{Padded}
-use Rattle.padding.specs.declared.strip.Unpadded.{Unpadded}
+
+-- What both calls answer: the number, and a length in bits, 0 where it is refused.
+pub record Answer : Type 0 where
+  pub number : ℕ
+  pub bits : ℕ
+
+abbrev pub answered : Result ℕ Refusal → Answer
+answered (Ok bits) = record { number = 0; bits = bits }
+answered (Err refusal) = record { number = number_of refusal; bits = 0 }
+
+abbrev pub Padded : Type 0
+Padded = Answer
+
+abbrev pub Unpadded : Type 0
+Unpadded = Answer
 
 -- ---- pad
 

@@ -1,8 +1,8 @@
 -- What is promised of padded texts, by the rule for every text, and by the calls.
 use Rattle.std.specs.Prelude.{ℕ, ◌+◌, ◌*◌, ◌%◌, ◌≤◌, ◌<◌, ◌≡◌, ◌↔◌, Bool, true, false, List, ◌∷◌, ◌++◌, length, get_or, drop, replicate}
 use Rattle.bits.specs.Texts.{bytes_for}
-use Rattle.padding.specs.declared.append.Padded.{Padded}
-use Rattle.padding.specs.declared.strip.Unpadded.{Unpadded}
+use Rattle.padding.specs.Padding.{Padded}
+use Rattle.padding.specs.Padding.{Unpadded}
 use Rattle.modes.specs.Sessions.{fed_text}
 use Rattle.padding.specs.Padding.{zeros_for, padded, padded_length, last_block, unpadded_length, PaddedBy, UnpaddedBy}
 

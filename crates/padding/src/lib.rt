@@ -5,5 +5,5 @@
 mod append;
 mod strip;
 
-pub use append::{Padded, pad};
-pub use strip::{Unpadded, unpad};
+pub use append::pad;
+pub use strip::unpad;

@@ -31,9 +31,9 @@ module _ (iv block : List ℕ) (m : ℕ) where
   unfolding of_block_number ask of_block_questions
   answers-0 q14 q16 = rw (q14, q16)
 
-  pub accepted-length : of_block_number iv block m ≡ 0 → (1 ≤ m) × (m ≤ 128)
+  pub accepted_length : of_block_number iv block m ≡ 0 → (1 ≤ m) × (m ≤ 128)
   unfolding of_block_number of_block_questions AcceptedExactly
-  accepted-length e = counter_bounds Ctr m ((accepted_exactly (of_block_questions iv block m) (omega arith)).0 e).0
+  accepted_length e = counter_bounds Ctr m ((accepted_exactly (of_block_questions iv block m) (omega arith)).0 e).0
 
   pub accepted-upper : of_block_number iv block m ≡ 0 → number iv / 2 ^ m ≡ number block / 2 ^ m
   unfolding of_block_number of_block_questions AcceptedExactly upper_same

@@ -17,7 +17,7 @@ use Rattle.feeds.specs.Counters.{CounterBlocksDiffer}
 use Rattle.modes.proofs.OpeningLaws.{asked, opened-session, opened-ready}
 use Rattle.feeds.proofs.OpenedFeeds.{opened_feeds}
 use Rattle.feeds.proofs.CounterLaws.{counted_up, counter_blocks_differ}
-use Rattle.places.specs.declared.Place.{Place}
+use Rattle.places.specs.Answers.{Place}
 use Rattle.places.specs.Answers.{ToldBy}
 use Rattle.places.specs.Promises.{Answers, RegistersTell, OpenedRegistersTell, NextRegisterTells}
 use Rattle.places.proofs.ToldLaws.{back}

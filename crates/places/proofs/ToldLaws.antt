@@ -16,10 +16,10 @@ use Rattle.rules.specs.Lengths.{counter_length_ok}
 use Rattle.rules.specs.Standard.{counter}
 use Rattle.rules.proofs.Counters.{counter-block, counter-number, counter-count}
 use Rattle.rules.proofs.Taken.{counter_bounds}
-use Rattle.places.specs.declared.Place.{Place}
+use Rattle.places.specs.Answers.{Place}
 use Rattle.places.specs.Answers.{upper_same, of_block_number, increments_between, ToldBy}
 use Rattle.places.specs.Promises.{Answers, CountsUp, Unreached, NumbersTold}
-use Rattle.places.proofs.AnswerLaws.{length_ok, answers-14, answers-16, answers-0, accepted-length, accepted-upper}
+use Rattle.places.proofs.AnswerLaws.{length_ok, answers-14, answers-16, answers-0, accepted_length, accepted-upper}
 
 -- ---- counting up
 
@@ -62,7 +62,7 @@ module _ {iv block : List ℕ} {m : ℕ} {r : Place} (hiv : Block iv) (hblock : 
   leads : r.number ≡ 0 → CountsUp m iv block (number r.increments)
   leads taken =
       let e = sym by.answer ∙ taken in
-      let fits = (accepted-length iv block m e).1 in
+      let fits = (accepted_length iv block m e).1 in
       let k : number r.increments ≡ increments_between m iv block = ap number (accepted e).increments ∙ held fits (below m iv block) in
       rw k (record { below = omega (arith, below m iv block); there = reaches fits hiv hblock (accepted-upper iv block m e) })
 

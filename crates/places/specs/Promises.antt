@@ -10,7 +10,7 @@ use Rattle.modes.specs.declared.session.Session.{Session}
 use Rattle.modes.specs.declared.session.Opened.{Opened}
 use Rattle.modes.specs.Sessions.{Arrays, OpenedBy}
 use Rattle.feeds.specs.Lists.{Call, Feeds, registers_used}
-use Rattle.places.specs.declared.Place.{Place}
+use Rattle.places.specs.Answers.{Place}
 use Rattle.places.specs.Answers.{ToldBy}
 
 -- ---- an answer

@@ -23,7 +23,8 @@ use Rattle.columns.specs.Inner.Words.{byte_at}
 use Rattle.columns.specs.Inner.Rounds.{table_round, last_round, add_words, rounds_by, mirrored, arranged, decrypts_by, block_by_rounds}
 use Rattle.prepared.specs.Inner.Parts.{substituted, matrix, unmixed, reversed_rule, backward_rule}
 use Rattle.prepared.proofs.KeyLaws.{Scheduled}
-use Rattle.prepared.proofs.TableLaws.{Tabled, word_byte, table-round, last-round}
+use Rattle.columns.proofs.ByteLaws.{word_byte}
+use Rattle.prepared.proofs.TableLaws.{Tabled, table-round, last-round}
 use Rattle.prepared.proofs.ForwardLaws.{block_bytes, rounds_by_bytes}
 
 -- ---- InvMixColumns goes through a sum

@@ -3,7 +3,11 @@
 use mathlib.Core.Path.{◌≡◌, refl, sym, ap, ◌∙◌}
 use mathlib.Core.Bool.{true, false}
 use mathlib.Core.List.{List, [], ◌∷◌, map}
-use Prim.Native.Nat.{ℕ, ◌-◌}
+use Prim.Native.Nat.{ℕ, ◌+◌, ◌-◌, ◌*◌, ◌<◌}
+use native.Mathlib.Omega.{arith}
+use mir.Syntax.{w32}
+use lib.Bits.{bit_xor}
+use Rattle.std.specs.Int.{from_le_bytes}
 use Rattle.bits.specs.Xor.{xor, xor_bytes}
 use Rattle.bits.specs.Counter.{number, number_bytes}
 use Rattle.bits.proofs.Xor as Xor
@@ -17,6 +21,10 @@ use Rattle.prepared.specs.Inner.Parts.{matrix, column_times, unmixed}
 use Rattle.columns.proofs.ByteLaws.{same-four, bytes_joined, sum_bytes}
 
 -- ---- the entries
+
+pub sum_byte : {x y : ℕ} → x < 256 → y < 256 → bit_xor x y < 256
+unfolding xor
+sum_byte h k = Xor.width 8 h k
 
 pub forward_entry : (b : ℕ) {t : ℕ} {l : List ℕ} → t ≡ double b → l ≡ t ∷ b ∷ b ∷ xor t b ∷ [] → l ≡ column_times false 0 b
 unfolding column_times circulant matrix four
@@ -51,10 +59,13 @@ backward_entry b {t} {f} {e} pt pf pe eq =
 
 -- ---- InvMixColumns
 
+lowest-first : (a b c d : ℕ) → d * 16777216 + c * 65536 + b * 256 + a ≡ from_le_bytes w32 (a ∷ b ∷ c ∷ d ∷ [])
+lowest-first a b c d = omega arith
+
 doubled_all : (x : ℕ) → word_bytes (number (map double (number_bytes 4 x))) ≡ map double (word_bytes x)
 unfolding word_bytes byte_at number_bytes four
 doubled_all x =
-    ap word_bytes (sym (join_four (λ i. double (byte_at x (3 - i)))))
+    ap word_bytes (sym (join_four (λ i. double (byte_at x (3 - i)))) ∙ lowest-first (double (byte_at x 0)) (double (byte_at x 1)) (double (byte_at x 2)) (double (byte_at x 3)))
     ∙ bytes_joined (double_byte (byte_at x 0)) (double_byte (byte_at x 1)) (double_byte (byte_at x 2)) (double_byte (byte_at x 3))
 
 doubled : (x : ℕ) {r : ℕ} {l : List ℕ} → r ≡ number (map double (number_bytes 4 x)) → word_bytes x ≡ l → word_bytes r ≡ map double l

@@ -12,13 +12,7 @@ use borrow.Author.Tests.{ltb-true, ltb-false, lt-ltb, le-ltb, eqb-true, eqb-fals
 use Rattle.bits.proofs.Tables.{stored_next}
 use Rattle.field.specs.Rows as Rows
 use Rattle.columns.specs.Inner.Words.{byte_at, word_bytes}
-use Rattle.prepared.specs.Inner.Parts.{Holds, Filled, zero_from, Unmixed, unmixed}
-
-pub held_none : (rule : ℕ → List ℕ) (words : List ℕ) → Holds 0 rule words
-held_none rule words = record { word = λ i h. absurd (omega arith) }
-
-pub held_all : {i n : ℕ} {rule : ℕ → List ℕ} {words : List ℕ} → n ≤ i → Holds i rule words → Holds n rule words
-held_all p h = record { word = λ j hj. h.word j (omega arith) }
+use Rattle.prepared.specs.Inner.Parts.{Holds, Placed, Filled, zero_from, Unmixed, unmixed}
 
 -- after what follows a rule, one part more that does
 pub held_more : {a b : ℕ} {rule part : ℕ → List ℕ} {before after : List ℕ} → Holds a rule before → Filled a b part before after
@@ -31,11 +25,17 @@ held_more {a} {b} {rule} {part} {before} {after} h f same = record { word = λ i
 
 -- ---- a part from one place on
 
-pub filled_none : (start : ℕ) (rule : ℕ → List ℕ) (words : List ℕ) → Filled start start rule words words
-filled_none start rule words = record { kept = λ i h. refl; word = λ i l h. absurd (omega arith) }
+pub placed_none : (start : ℕ) (made : ℕ → ℕ → Type 0) (words : List ℕ) → Placed start start made words words
+placed_none start made words = record { kept = λ i h. refl; word = λ i l h. absurd (omega arith) }
 
-pub filled-all : {start i n : ℕ} {rule : ℕ → List ℕ} {before after : List ℕ} → i ≡ n → Filled start i rule before after → Filled start n rule before after
-filled-all e f = rw (sym e) f
+-- of each word one thing, and so another
+pub placed_as : {start end : ℕ} {made : ℕ → ℕ → Type 0} (then : ℕ → ℕ → Type 0) {before after : List ℕ} → Placed start end made before after
+    → ((i : ℕ) → start ≤ i → i < end → (word : ℕ) → made i word → then i word) → Placed start end then before after
+placed_as then {after = after} f h = record { kept = f.kept; word = λ i l u. h i l u (get_or after i 0) (f.word i l u) }
+
+-- a part that begins at the first place
+pub placed_held : {end : ℕ} {rule : ℕ → List ℕ} {before after : List ℕ} → Filled 0 end rule before after → Holds end rule after
+placed_held f = record { word = λ i h. f.word i (omega arith) h }
 
 -- ---- zero from a count on
 
@@ -52,9 +52,6 @@ pub zero_bytes : (n : ℕ) (rule : ℕ → List ℕ) → Holds n (zero_from 0 ru
 unfolding word_bytes byte_at Rows.four
 zero_bytes n rule = record { word = λ i h. ap word_bytes (get_or-replicate n i 0 0 h) ∙ sym (zero-after 0 rule i (omega arith)) }
 
-pub zero_all : (i : ℕ) {count n : ℕ} (rule : ℕ → List ℕ) {words : List ℕ} → i ≡ count → Holds n (zero_from i rule) words → Holds n (zero_from count rule) words
-zero_all i rule e h = rw (sym e) h
-
 module _ (l : List ℕ) (i v : ℕ) (room : i < length l) where
   kept : (j : ℕ) → (j ≡ i → ⊥) → get_or (set l i v) j 0 ≡ get_or l j 0
   kept j h = get_or-set_other l i j v 0 h
@@ -62,11 +59,11 @@ module _ (l : List ℕ) (i v : ℕ) (room : i < length l) where
   pub held_next : (rule : ℕ → List ℕ) → Holds i rule l → word_bytes v ≡ rule i → Holds (i + 1) rule (set l i v)
   held_next rule h e = record { word = stored_next l i v room (λ j x. word_bytes x ≡ rule j) h.word e }
 
-  pub filled_next : {start : ℕ} {rule : ℕ → List ℕ} {before : List ℕ} → start ≤ i → Filled start i rule before l → word_bytes v ≡ rule i → Filled start (i + 1) rule before (set l i v)
-  filled_next {start} {rule} {before} past f e =
+  pub placed_next : {start : ℕ} {made : ℕ → ℕ → Type 0} {before : List ℕ} → start ≤ i → Placed start i made before l → made i v → Placed start (i + 1) made before (set l i v)
+  placed_next {start} {made} {before} past f e =
       record {
         kept = λ j hj. kept j (λ x. omega arith) ∙ f.kept j hj;
-        word = λ j lower hj. stored_next l i v room (λ j x. start ≤ j → word_bytes x ≡ rule j) (λ j hj lower. f.word j lower hj) (λ lower. e) j hj lower;
+        word = λ j lower hj. stored_next l i v room (λ j x. start ≤ j → made j x) (λ j hj lower. f.word j lower hj) (λ lower. e) j hj lower;
       }
 
   pub zero-next : (n : ℕ) (rule : ℕ → List ℕ) → Holds n (zero_from i rule) l → word_bytes v ≡ rule i → Holds n (zero_from (i + 1) rule) (set l i v)

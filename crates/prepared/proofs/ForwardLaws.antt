@@ -16,9 +16,9 @@ use Rattle.steps.proofs.StateLaws.{StateBytes, state_ext, state_byte, from_block
 use Rattle.columns.specs.Inner.Words.{byte_at}
 use Rattle.columns.specs.Inner.Rounds.{table_round, last_round, add_words, rounds_by, arranged, decrypts_by, block_by_rounds}
 use Rattle.prepared.specs.Inner.Parts.{substituted, matrix}
-use Rattle.columns.proofs.ByteLaws.{byte_small}
+use Rattle.columns.proofs.ByteLaws.{byte_small, word_byte}
 use Rattle.prepared.proofs.KeyLaws.{Scheduled}
-use Rattle.prepared.proofs.TableLaws.{Tabled, word_byte, table_round_bytes, table-round, last-round}
+use Rattle.prepared.proofs.TableLaws.{Tabled, table_round_bytes, table-round, last-round}
 
 -- ---- the states stay bytes
 

@@ -1,23 +1,17 @@
 -- The words of the round keys: where the code finds their bytes, and the three cases of their rule. Assumes nothing.
 use mathlib.Core.Path.{◌≡◌, refl, sym, ap, ◌∙◌}
 use mathlib.Core.Bool.{Bool, true, false, cond}
-use mathlib.Core.List.{List, [], ◌∷◌}
+use mathlib.Core.List.{List}
 use Prim.Native.Nat.{ℕ, ◌+◌, ◌-◌, ◌*◌, ◌≤◌, ◌<◌}
-use native.Mathlib.Nat.{add-zero}
 use native.Mathlib.Omega.{arith}
 use lib.Dec.{ltb}
 use lib.ListN.{get_or, replicate}
 use borrow.Author.Tests.{ltb-true, ltb-false}
-use Rattle.field.specs.Rows.{four, word_at}
+use Rattle.field.specs.Rows.{word_at}
 use Rattle.cipher.specs.Cipher.{rounds_ok}
 use Rattle.columns.specs.Inner.Words.{word_bytes}
-use Rattle.prepared.specs.Inner.Parts.{Holds, Filled, reversed_rule, backward_rule, zero_from, word_rule, Unmixed, unmixed}
-use Rattle.columns.proofs.ByteLaws.{same-four}
+use Rattle.prepared.specs.Inner.Parts.{Holds, Placed, Filled, reversed_rule, backward_rule, zero_from, word_rule, Unmixed, unmixed}
 use Rattle.prepared.proofs.FillLaws.{zero-before, zero-after, zero_bytes}
-
-pub key-placed : (w : List ℕ) (i : ℕ) {l : List ℕ} → l ≡ get_or w (4 * i) 0 ∷ get_or w (4 * i + 1) 0 ∷ get_or w (4 * i + 2) 0 ∷ get_or w (4 * i + 3) 0 ∷ [] → l ≡ word_at w i
-unfolding word_at four
-key-placed w i e = e ∙ same-four (ap (λ n. get_or w n 0) (sym (add-zero (4 * i)))) refl refl refl
 
 module _ (rounds : ℕ) (keys : List ℕ) {reversed words : List ℕ} (h : Holds 60 (zero_from (4 * rounds + 4) (reversed_rule rounds keys)) reversed)
     (u : Unmixed (4 * rounds) reversed words) where
@@ -58,8 +52,8 @@ module _ (rounds : ℕ) (keys : List ℕ) where
   scheduled-refused q = rw q (zero_bytes 60 (backward_rule rounds keys))
 
   pub filled-backward : {decrypting : Bool} {words before after : List ℕ} → decrypting ≡ true → Holds 60 (word_rule true rounds keys) words
-      → Filled 1280 1340 (λ i. word_bytes (get_or words (i - 1280) 0)) before after → Filled 1280 1340 (λ i. word_rule decrypting rounds keys (i - 1280)) before after
-  filled-backward p h f = rw p (record { kept = f.kept; word = λ i l u. f.word i l u ∙ h.word (i - 1280) (omega arith) })
+      → Placed 1280 1340 (λ i word. word ≡ get_or words (i - 1280) 0) before after → Filled 1280 1340 (λ i. word_rule decrypting rounds keys (i - 1280)) before after
+  filled-backward p h f = rw p (record { kept = f.kept; word = λ i l u. ap word_bytes (f.word i l u) ∙ h.word (i - 1280) (omega arith) })
 
   pub filled-forward : {decrypting : Bool} {before after : List ℕ} → decrypting ≡ false → Filled 1280 1340 (λ i. word_at keys (i - 1280)) before after
       → Filled 1280 1340 (λ i. word_rule decrypting rounds keys (i - 1280)) before after

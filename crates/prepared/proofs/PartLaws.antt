@@ -10,7 +10,7 @@ use Rattle.boxes.specs.Boxes.{Tabulates}
 use Rattle.cipher.specs.Cipher.{rounds_ok}
 use Rattle.columns.specs.Inner.Words.{word_bytes}
 use Rattle.prepared.specs.Inner.Parts.{Holds, Filled, substituted, column_times, entry_rule, byte_word, table_rule, word_rule, end_rule, prepared_rule}
-use Rattle.prepared.proofs.FillLaws.{held_more, filled_none, filled_next}
+use Rattle.prepared.proofs.FillLaws.{held_more, placed_none, placed_next}
 
 -- ---- the tables
 
@@ -61,5 +61,5 @@ pub ends_filled : (decrypting : Bool) (rounds : ℕ) (p : List ℕ) {n d : ℕ} 
     → Filled 1340 1342 (end_rule decrypting rounds) p (set (set p 1340 n) 1341 d)
 unfolding end_rule
 ends_filled decrypting rounds p {n} {d} long e f =
-    filled_next (set p 1340 n) 1341 d (omega (arith, length-set p 1340 n, long)) (omega arith)
-    (filled_next p 1340 n (omega (arith, long)) (omega arith) (filled_none 1340 (end_rule decrypting rounds) p) (ap word_bytes e)) (ap word_bytes f)
+    placed_next (set p 1340 n) 1341 d (omega (arith, length-set p 1340 n, long)) (omega arith)
+    (placed_next p 1340 n (omega (arith, long)) (omega arith) (placed_none 1340 _ p) (ap word_bytes e)) (ap word_bytes f)

@@ -17,7 +17,8 @@ use Rattle.prepared.specs.Inner.Parts.{Holds, substituted, column_times, byte_wo
 use Rattle.prepared.specs.Prepared.{prepared_block, PreparedFor, PreparedBy}
 use Rattle.prepared.proofs.KeyLaws.{Scheduled, scheduled_enc, scheduled_dec}
 use Rattle.columns.proofs.RunLaws.{run-rounds, run-refused}
-use Rattle.prepared.proofs.TableLaws.{Tabled, word_byte}
+use Rattle.columns.proofs.ByteLaws.{word_byte}
+use Rattle.prepared.proofs.TableLaws.{Tabled}
 use Rattle.prepared.proofs.PartLaws.{in_table, in-last, in_tables, in-keys, in-ends}
 use Rattle.prepared.proofs.ForwardLaws.{forward-cipher}
 use Rattle.prepared.proofs.BackwardLaws.{backward-cipher}

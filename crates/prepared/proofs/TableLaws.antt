@@ -11,15 +11,14 @@ use Rattle.bits.proofs.Xor as Xor
 use Rattle.field.specs.Field.{product}
 use Rattle.boxes.specs.Boxes.{sub_byte, inv_sub_byte, Tabulates}
 use Rattle.field.specs.Rows.{four}
-use Rattle.field.proofs.Fours.{four-at}
 use Rattle.steps.specs.State.{at, state}
 use Rattle.steps.specs.Steps.{bytewise, shift_rows, circulant, dot, mix_with}
 use Rattle.steps.proofs.StateLaws.{StateBytes, at-state, state_ext, state_byte}
 use Rattle.steps.proofs.MixLaws.{dot_ext}
 use Rattle.columns.specs.Inner.Words.{byte_at, word_bytes}
-use Rattle.columns.specs.Inner.Rounds.{entry_sum, last_byte, table_round, last_round}
-use Rattle.prepared.specs.Inner.Parts.{substituted, matrix, column_times, entry_rule}
-use Rattle.columns.proofs.ByteLaws.{byte_small, same-four}
+use Rattle.columns.specs.Inner.Rounds.{entry_sum, drawn, last_byte, table_round, last_round}
+use Rattle.prepared.specs.Inner.Parts.{substituted, matrix, column_times, entry_rule, byte_word}
+use Rattle.columns.proofs.ByteLaws.{byte_small, same-four, word_byte}
 
 pub substituted_back : {decrypting : Bool} {table : List ℕ} → decrypting ≡ true → Tabulates inv_sub_byte table → Tabulates (substituted decrypting) table
 unfolding substituted
@@ -28,11 +27,6 @@ substituted_back e h = rw e h
 pub substituted_forward : {decrypting : Bool} {table : List ℕ} → decrypting ≡ false → Tabulates sub_byte table → Tabulates (substituted decrypting) table
 unfolding substituted
 substituted_forward e h = rw e h
-
--- byte r of a word whose bytes follow a rule
-pub word_byte : (x : ℕ) (f : ℕ → ℕ) → word_bytes x ≡ four f → (r : ℕ) → r < 4 → byte_at x r ≡ f r
-unfolding word_bytes
-word_byte x f e r h = sym (four-at 0 (byte_at x) r h) ∙ ap (λ l. get_or l r 0) e ∙ four-at 0 f r h
 
 -- ---- the entries, as they are stored
 
@@ -66,10 +60,15 @@ module _ (decrypting : Bool) (last : List ℕ) where
   entry-turned i x h p e =
       column-turned ((i - 256) / 256) (get_or last ((i - 256) % 256) 0) x p e ∙ sym (entry_at ((i - 256) / 256 + 1) ((i - 256) % 256) i (omega arith) (omega arith))
 
+-- a byte as a word
+pub widened : {b : ℕ} → b < 256 → word_bytes b ≡ byte_word b
+unfolding word_bytes byte_word byte_at four
+widened h = same-four (omega arith) (omega arith) (omega arith) (omega arith)
+
 -- ---- the rounds
 
 pub table_round_bytes : (p : List ℕ) (s : List (List ℕ)) → StateBytes (table_round p s)
-unfolding table_round entry_sum
+unfolding table_round entry_sum drawn
 table_round_bytes p s =
     record { byte = state_byte (λ r c. entry_sum p (λ k. at s k ((c + k) % 4)) r) (λ r c. Xor.width 8 (byte_small _ _) (Xor.width 8 (byte_small _ _) (Xor.width 8 (byte_small _ _) (byte_small _ _)))) }
 
@@ -92,16 +91,16 @@ module _ (decrypting : Bool) {p : List ℕ} (tab : Tabled decrypting p) where
 
   module _ {s : List (List ℕ)} (h : StateBytes s) where
     pub table-round : table_round p s ≡ mix_with (matrix decrypting) (shift_rows (bytewise (substituted decrypting) s))
-    unfolding table_round mix_with shift_rows bytewise
+    unfolding table_round drawn mix_with shift_rows bytewise
     table-round =
         state_ext (λ r c. entry_sum p (λ k. at s k ((c + k) % 4)) r)
         (λ r c. dot (circulant (matrix decrypting) r) (λ k. at (shift_rows (bytewise (substituted decrypting) s)) k c))
         (λ r c hr hc. entry-sum (λ k. at s k ((c + k) % 4)) (λ k. h.byte k ((c + k) % 4)) r hr
         ∙ dot_ext (circulant (matrix decrypting) r) (λ k. substituted decrypting (at s k ((c + k) % 4))) (λ k. at (shift_rows (bytewise (substituted decrypting) s)) k c)
-        (λ k hk. sym (drawn k c hk hc)))
+        (λ k hk. sym (brought k c hk hc)))
       where
-        drawn : (k c : ℕ) → k < 4 → c < 4 → at (state (λ r c. at (state (λ r c. substituted decrypting (at s r c))) r ((c + r) % 4))) k c ≡ substituted decrypting (at s k ((c + k) % 4))
-        drawn k c hk hc =
+        brought : (k c : ℕ) → k < 4 → c < 4 → at (state (λ r c. at (state (λ r c. substituted decrypting (at s r c))) r ((c + r) % 4))) k c ≡ substituted decrypting (at s k ((c + k) % 4))
+        brought k c hk hc =
             at-state (λ r c. at (state (λ r c. substituted decrypting (at s r c))) r ((c + r) % 4)) k c hk hc
             ∙ at-state (λ r c. substituted decrypting (at s r c)) k ((c + k) % 4) hk (omega arith)
 

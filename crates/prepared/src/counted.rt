@@ -3,7 +3,7 @@ ghost use Rattle.prepared.specs.Prepared.{prepared_block, Counted};
 
 use crate::layout::Prepared;
 
-// What the block function made of a block, and the runs that it took.
+// What the block function made of a block, and the runs that it took: a count and no flag, which a feed adds up.
 #[derive(Clone, Copy)]
 pub struct Ran {
     pub block: [u8; 16],
@@ -14,9 +14,8 @@ pub struct Ran {
 pub fn run(prepared: &Prepared, block: [u8; 16]) -> Ran
     ensures { Counted (prepared_block prepared.now) block result }
 {
-    let made = columns::by_prepared(prepared, block);
     Ran {
-        block: made,
+        block: columns::by_prepared(prepared, block),
         runs: 1,
     }
 }

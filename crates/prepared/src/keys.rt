@@ -1,11 +1,13 @@
 // The words of the round keys, in the order of their use.
-ghost use Rattle.std.specs.Prelude.{◌≡◌, true, ◌+◌, ◌-◌, ◌*◌, ◌<◌, length, get_or};
+ghost use Rattle.std.specs.Prelude.{◌≡◌, true, ◌+◌, ◌-◌, ◌*◌, ◌≤◌, ◌<◌};
 ghost use Rattle.field.specs.Rows.{word_at};
-ghost use Rattle.cipher.specs.Cipher.{rounds_ok};
 ghost use Rattle.columns.specs.Inner.Words.{word_bytes};
 ghost use Rattle.prepared.specs.Inner.Parts.{Holds, Filled, reversed_rule, zero_from, word_rule, Unmixed};
 
+use crate::fill::fill;
+use crate::layout::Prepared;
 use crate::words;
+use columns::{KEYS, ROUNDS};
 
 // Word i of the round keys.
 fn key_word(keys: &[u8; 240], i: usize) -> u32
@@ -13,43 +15,28 @@ fn key_word(keys: &[u8; 240], i: usize) -> u32
     ensures { word_bytes result ≡ word_at keys.now i }
 {
     let at = 4 * i;
-    columns::word(keys[at], keys[at + 1], keys[at + 2], keys[at + 3])
-}
-
-fn forward_words(keys: &[u8; 240], prepared: &mut [u32])
-    requires { length prepared.old ≡ 1342 }
-    ensures { Filled 1280 1340 (λ i. word_at keys.now (i - 1280)) prepared.old prepared.new }
-{
-    let mut i = columns::KEYS;
-    while i < columns::ROUNDS {
-        prepared[i] = key_word(keys, i - columns::KEYS);
-        i += 1;
-    }
+    u32::from_le_bytes([keys[at], keys[at + 1], keys[at + 2], keys[at + 3]])
 }
 
 // From the last round key to the first, and the columns of each in the order 0, 3, 2, 1.
 fn reversed_words(rounds: usize, keys: &[u8; 240]) -> [u32; 60]
-    requires { rounds_ok rounds ≡ true }
+    requires { rounds ≤ 14 }
     ensures { Holds 60 (zero_from (4 * rounds + 4) (reversed_rule rounds keys.now)) result }
 {
     let mut reversed = [0; 60];
-    let mut i: usize = 0;
-    while i < 4 * rounds + 4 {
+    for i in 0..4 * rounds + 4 {
         reversed[i] = key_word(keys, 4 * (rounds - i / 4) + (4 - i % 4) % 4);
-        i += 1;
     }
     reversed
 }
 
 fn unmix_middle(rounds: usize, reversed: [u32; 60]) -> [u32; 60]
-    requires { rounds_ok rounds ≡ true }
+    requires { (0 < rounds) × (rounds ≤ 14) }
     ensures { Unmixed (4 * rounds) reversed result }
 {
     let mut words = reversed;
-    let mut i: usize = 4;
-    while i < 4 * rounds {
+    for i in 4..4 * rounds {
         words[i] = words::unmix(words[i]);
-        i += 1;
     }
     words
 }
@@ -65,26 +52,14 @@ fn backward_words(rounds: usize, keys: &[u8; 240]) -> [u32; 60]
     }
 }
 
-fn copy_words(words: &[u32; 60], prepared: &mut [u32])
-    requires { length prepared.old ≡ 1342 }
-    ensures { Filled 1280 1340 (λ i. word_bytes (get_or words.now (i - 1280) 0)) prepared.old prepared.new }
-{
-    let mut i = columns::KEYS;
-    while i < columns::ROUNDS {
-        prepared[i] = words[i - columns::KEYS];
-        i += 1;
-    }
-}
-
 // The words after the tables.
-pub fn fill_words(decrypting: bool, rounds: usize, keys: &[u8; 240], prepared: &mut [u32])
-    requires { length prepared.old ≡ 1342 }
+pub fn fill_words(decrypting: bool, rounds: usize, keys: &[u8; 240], prepared: &mut Prepared)
     ensures { Filled 1280 1340 (λ i. word_rule decrypting rounds keys.now (i - 1280)) prepared.old prepared.new }
 {
     if decrypting {
         let words = backward_words(rounds, keys);
-        copy_words(&words, prepared);
-        return;
+        fill(prepared, KEYS, ROUNDS, |i| words[i - KEYS]);
+    } else {
+        fill(prepared, KEYS, ROUNDS, |i| key_word(keys, i - KEYS));
     }
-    forward_words(keys, prepared);
 }

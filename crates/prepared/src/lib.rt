@@ -4,6 +4,7 @@
 #![tactic(auto)]
 
 mod counted;
+mod fill;
 mod keys;
 mod layout;
 mod preparation;

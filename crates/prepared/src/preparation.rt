@@ -1,5 +1,5 @@
 // What is prepared once for many blocks.
-ghost use Rattle.std.specs.Prelude.{◌≡◌, cond, length};
+ghost use Rattle.std.specs.Prelude.{◌≡◌, cond};
 ghost use Rattle.cipher.specs.Cipher.{rounds_ok};
 ghost use Rattle.prepared.specs.Inner.Parts.{Filled, end_rule};
 ghost use Rattle.prepared.specs.Prepared.{PreparedBy};
@@ -18,19 +18,12 @@ fn rounds_word(rounds: usize) -> u32
     }
 }
 
-fn direction_word(decrypting: bool) -> u32
-    ensures { result ≡ cond decrypting 1 0 }
-{
-    if decrypting { 1 } else { 0 }
-}
-
 // The last two words.
-fn fill_ends(decrypting: bool, rounds: usize, prepared: &mut [u32])
-    requires { length prepared.old ≡ 1342 }
+fn fill_ends(decrypting: bool, rounds: usize, prepared: &mut Prepared)
     ensures { Filled 1340 1342 (end_rule decrypting rounds) prepared.old prepared.new }
 {
     prepared[columns::ROUNDS] = rounds_word(rounds);
-    prepared[columns::DIRECTION] = direction_word(decrypting);
+    prepared[columns::DIRECTION] = u32::from(decrypting);
 }
 
 // Fills `prepared` for Enc, or for Dec where `decrypting` holds. Nothing is left of what stood there.

@@ -8,9 +8,9 @@ ghost use Rattle.prepared.specs.Inner.Parts.{unmixed};
 pub fn unmix(x: u32) -> u32
     ensures { word_bytes result ≡ unmixed (word_bytes x) }
 {
-    let next = columns::turn_three(x);
-    let across = columns::turn_two(x);
-    let others = next ^ across ^ columns::turn_one(x);
+    let next = x.rotate_left(24);
+    let across = x.rotate_left(16);
+    let others = next ^ across ^ x.rotate_left(8);
     let eightfold = field::double_row(x ^ others);
     let fourfold = field::double_row(eightfold ^ x ^ across);
     field::double_row(fourfold ^ x ^ next) ^ others

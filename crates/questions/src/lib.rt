@@ -2,14 +2,16 @@
 #![tactic(auto)]
 
 mod numbers;
+mod refusal;
 
-ghost use Rattle.std.specs.Prelude.{◌≡◌, ◌%◌, eqb};
+ghost use Rattle.std.specs.Prelude.{◌≡◌};
 ghost use Rattle.bits.specs.Texts.{bytes_for};
 ghost use Rattle.rules.specs.Lengths.{whole_units};
 ghost use Rattle.rules.specs.Rules.{units_in};
 ghost use Rattle.questions.specs.Questions.{iv_bytes, session_ok, bits_ok, room_ok};
 
-pub use numbers::{feed_number, open_number};
+pub use numbers::{Lent, ask_feed, ask_open};
+pub use refusal::{Refusal, number};
 use rules::Mode;
 
 // The block, in bytes.
@@ -22,98 +24,66 @@ pub const BLOCK_BITS: usize = 8 * BLOCK;
 pub const MAX_BITS: usize = 524288;
 
 // The most units that a session does.
-pub const MAX_UNITS: u64 = 18446744073709551615;
+pub const MAX_UNITS: u64 = u64::MAX;
 
 // The IV's length, of question 2.
+#[tactic(auto, unfolding(crate::specs::Questions::iv_bytes))]
 fn iv_bytes(mode: Mode) -> usize
     ensures { result ≡ iv_bytes mode }
 {
     match mode {
         Mode::Ecb => 0,
-        Mode::Cbc => BLOCK,
-        Mode::Cfb => BLOCK,
-        Mode::Ofb => BLOCK,
-        Mode::Ctr => BLOCK,
+        Mode::Cbc | Mode::Cfb | Mode::Ofb | Mode::Ctr => BLOCK,
     }
 }
 
 // Question 4.
+#[tactic(auto, unfolding(crate::specs::Questions::session_ok))]
 fn session_ok(mode: Mode, rounds: usize, n: usize, m: usize) -> bool
     ensures { result ≡ session_ok mode rounds n m }
 {
-    if !cipher::rounds_ok(rounds) {
-        return false;
-    }
-    if !rules::unit_length_ok(mode, n) {
-        return false;
-    }
-    rules::counter_length_ok(mode, m)
+    cipher::rounds_ok(rounds) && rules::unit_length_ok(mode, n) && rules::counter_length_ok(mode, m)
 }
 
 // Question 6. The bits are there where their whole bytes are, and one byte more for spare bits.
+#[tactic(auto, unfolding(crate::specs::Questions::bits_ok, bits::specs::Texts::bytes_for))]
 pub fn bits_ok(limit: usize, bytes: usize, bits: usize) -> bool
     ensures { result ≡ bits_ok limit bytes bits }
 {
-    if bits > limit {
-        return false;
-    }
-    if bits % 8 == 0 {
-        return bits / 8 <= bytes;
-    }
-    bits / 8 < bytes
-}
-
-// Are the bits a multiple of n? Of 0 only 0 is one.
-fn multiple(n: usize, bits: usize) -> bool
-    ensures { result ≡ eqb (bits % n) 0 }
-{
-    if n == 0 {
-        return bits == 0;
-    }
-    bits % n == 0
+    bytes_for(bits) <= bytes && bits <= limit
 }
 
 // Question 7.
+#[tactic(auto, unfolding(rules::specs::Lengths::whole_units))]
 pub fn whole_units(mode: Mode, n: usize, bits: usize) -> bool
     ensures { result ≡ whole_units mode n bits }
 {
     match mode {
-        Mode::Ecb => multiple(n, bits),
-        Mode::Cbc => multiple(n, bits),
-        Mode::Cfb => multiple(n, bits),
-        Mode::Ofb => true,
-        Mode::Ctr => true,
+        Mode::Ecb | Mode::Cbc | Mode::Cfb => bits.is_multiple_of(n),
+        Mode::Ofb | Mode::Ctr => true,
     }
 }
 
 // Question 8.
+#[tactic(auto, unfolding(crate::specs::Questions::room_ok))]
 pub fn room_ok(size: usize, place: usize, bytes: usize) -> bool
     ensures { result ≡ room_ok size place bytes }
 {
-    if place <= size {
-        bytes <= size - place
-    } else {
-        false
-    }
+    place <= size && bytes <= size - place
 }
 
 // How many units this many bits have, a short last one included.
+#[tactic(auto, unfolding(rules::specs::Rules::units_in))]
 pub fn units_in(n: usize, bits: usize) -> usize
     ensures { result ≡ units_in n bits }
 {
-    if n == 0 {
-        return 0;
-    }
-    let whole = bits / n;
-    if bits % n == 0 {
-        return whole;
-    }
-    whole + 1
+    if n == 0 { 0 } else { bits.div_ceil(n) }
 }
 
 // How many bytes this many bits need, rounded up.
+#[tactic(auto, unfolding(bits::specs::Texts::bytes_for))]
 pub fn bytes_for(bits: usize) -> usize
     ensures { result ≡ bytes_for bits }
 {
-    units_in(8, bits)
+    bits.div_ceil(8)
 }

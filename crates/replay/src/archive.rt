@@ -1,41 +1,35 @@
 // One block of a CBC archive.
+use crate::output::Output;
 use crate::state::State;
-use script::{Words, bytes, print};
+use script::{Hex, MAX_BYTES, Words};
 use std::io;
+use std::io::Write;
 
-// neighbour IV TEXT J
-pub fn neighbour(
-    words: Words,
-    space: &[u8],
-    text: &mut [u8; 65536],
-    state: State,
-) -> io::Result<State> {
-    let part = inspect::neighbour(
-        bytes(space, words, 1),
-        bytes(space, words, 2),
-        words.number(3),
-    );
-    let end = print::bytes(state.to, text, state.end, part, b'\n')?;
-    Ok(state.with_end(end))
-}
+impl State {
+    // neighbour IV TEXT J
+    pub fn neighbour(&mut self, mut words: Words<'_>) -> Option<io::Result<()>> {
+        let iv = words.bytes()?;
+        let text = words.text()?;
+        let j = words.number()?;
+        words.end()?;
+        let part = inspect::neighbour(iv, text, j);
+        Some(writeln!(self.answers, "{}", Hex(part)))
+    }
 
-// block KEY IV TEXT J OUTLEN PLACE FILL
-pub fn block(
-    words: Words,
-    space: &[u8],
-    out: &mut [u8],
-    text: &mut [u8; 65536],
-    state: State,
-) -> io::Result<State> {
-    let number = inspect::decrypt_block(
-        bytes(space, words, 1),
-        bytes(space, words, 2),
-        bytes(space, words, 3),
-        words.number(4),
-        out,
-        words.number(6),
-    );
-    let mut at = print::number(state.to, text, state.end, number as u64, b' ')?;
-    at = print::bytes(state.to, text, at, out, b'\n')?;
-    Ok(state.with_end(at))
+    // block KEY IV TEXT J OUTLEN PLACE FILL
+    pub fn block(
+        &mut self,
+        mut words: Words<'_>,
+        room: &mut [u8; MAX_BYTES],
+    ) -> Option<io::Result<()>> {
+        let key = words.bytes()?;
+        let iv = words.bytes()?;
+        let text = words.text()?;
+        let j = words.number()?;
+        let output = Output::read(&mut words)?;
+        words.end()?;
+        let out = output.lent(room);
+        let answer = inspect::decrypt_block(key, iv, text, j, out, output.place);
+        Some(writeln!(self.answers, "{} {}", questions::number(answer), Hex(out)))
+    }
 }

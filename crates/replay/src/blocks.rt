@@ -1,50 +1,39 @@
 // The calls of `aes`: round keys, and one block under a key.
-use crate::sessions::print_keys;
 use crate::state::State;
-use aes::Answer;
-use script::{Words, block, bytes, print};
+use aes::KeyLength;
+use script::{Hex, Words};
 use std::io;
+use std::io::Write;
 
-// expand KEY
-pub fn expand(
-    words: Words,
-    space: &[u8],
-    text: &mut [u8; 65536],
-    state: State,
-) -> io::Result<State> {
-    let schedule = aes::expand(bytes(space, words, 1));
-    let keys = schedule.keys;
-    let mut at = print::number(state.to, text, state.end, schedule.number as u64, b' ')?;
-    at = print::number(state.to, text, at, schedule.rounds as u64, b' ')?;
-    at = print_keys(state.to, text, at, keys)?;
-    Ok(state.with_end(at))
-}
+impl State {
+    // expand KEY
+    pub fn expand(&mut self, mut words: Words<'_>) -> Option<io::Result<()>> {
+        let key = words.bytes()?;
+        words.end()?;
+        Some(match aes::expand(key) {
+            Ok(schedule) => writeln!(
+                self.answers,
+                "0 {} {}",
+                schedule.rounds,
+                Hex(&schedule.keys)
+            ),
+            Err(KeyLength) => writeln!(self.answers, "1 0 {}", Hex(&[0; 240])),
+        })
+    }
 
-fn answered(text: &mut [u8; 65536], state: State, answer: Answer) -> io::Result<State> {
-    let block = answer.block;
-    let mut at = print::number(state.to, text, state.end, answer.number as u64, b' ')?;
-    at = print::block(state.to, text, at, block, b'\n')?;
-    Ok(state.with_end(at))
-}
+    // encrypt KEY BLOCK
+    pub fn encrypt(&mut self, mut words: Words<'_>) -> Option<io::Result<()>> {
+        let key = words.bytes()?;
+        let block = words.block()?;
+        words.end()?;
+        Some(self.answer_block(aes::encrypt(key, block)))
+    }
 
-// encrypt KEY BLOCK
-pub fn encrypt(
-    words: Words,
-    space: &[u8],
-    text: &mut [u8; 65536],
-    state: State,
-) -> io::Result<State> {
-    let answer = aes::encrypt(bytes(space, words, 1), block(space, words, 2));
-    answered(text, state, answer)
-}
-
-// decrypt KEY BLOCK
-pub fn decrypt(
-    words: Words,
-    space: &[u8],
-    text: &mut [u8; 65536],
-    state: State,
-) -> io::Result<State> {
-    let answer = aes::decrypt(bytes(space, words, 1), block(space, words, 2));
-    answered(text, state, answer)
+    // decrypt KEY BLOCK. One function for both would be given the call, for two lines in each.
+    pub fn decrypt(&mut self, mut words: Words<'_>) -> Option<io::Result<()>> {
+        let key = words.bytes()?;
+        let block = words.block()?;
+        words.end()?;
+        Some(self.answer_block(aes::decrypt(key, block)))
+    }
 }

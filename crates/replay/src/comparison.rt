@@ -1,23 +1,25 @@
 // Sessions compared.
 use crate::state::State;
-use script::print;
+use script::Words;
 use std::io;
+use std::io::Write;
 
-// keep
-pub fn keep(text: &mut [u8; 65536], state: State) -> io::Result<State> {
-    let session = state.session;
-    let end = print::label(state.to, text, state.end, b"kept", b'\n')?;
-    Ok(state.with_kept(session).with_end(end))
-}
+impl State {
+    // keep
+    pub fn keep(&mut self, words: Words<'_>) -> Option<io::Result<()>> {
+        words.end()?;
+        self.kept = self.session;
+        Some(writeln!(self.answers, "kept"))
+    }
 
-// alike
-pub fn alike(text: &mut [u8; 65536], state: State) -> io::Result<State> {
-    let session = state.session;
-    let kept = state.kept;
-    let end = if inspect::alike(session, kept) {
-        print::label(state.to, text, state.end, b"yes", b'\n')?
-    } else {
-        print::label(state.to, text, state.end, b"no", b'\n')?
-    };
-    Ok(state.with_end(end))
+    // alike
+    pub fn alike(&mut self, words: Words<'_>) -> Option<io::Result<()>> {
+        words.end()?;
+        let answer = if inspect::alike(self.session, self.kept) {
+            "yes"
+        } else {
+            "no"
+        };
+        Some(writeln!(self.answers, "{answer}"))
+    }
 }

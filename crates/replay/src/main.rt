@@ -30,156 +30,55 @@
 // bits. A last line that no line feed ends counts if it is not empty.
 #![tactic(auto)]
 
+mod answered;
 mod archive;
 mod blocks;
 mod commands;
 mod comparison;
 mod counters;
 mod feeding;
+mod output;
+mod room;
 mod sessions;
 mod state;
 mod texts;
 
-use script::{MAX_BYTES, MAX_LINE, first};
+use room::Room;
 use state::State;
 use std::io;
-use std::io::{Read, Stdin};
+use std::io::Read;
 
-// Adds a byte to the line. A full line is too long, and stays full.
-fn push(line: &mut [u8], len: usize, b: u8) -> usize {
-    if len < line.len() {
-        line[len] = b;
-        return len + 1;
-    }
-    len
-}
-
-// Is the line passed over? A comment may be longer than a line can be.
-fn passed_over(line: &[u8], len: usize) -> bool {
-    if len == 0 {
-        return true;
-    }
-    if line.len() == 0 {
-        return true;
-    }
-    line[0] == b'#'
-}
-
-// Runs the line that is gathered, and starts the next one.
-fn end_line(
-    line: &[u8],
-    space: &mut [u8],
-    out: &mut [u8],
-    text: &mut [u8; 65536],
-    state: State,
-) -> io::Result<State> {
-    let len = state.len;
-    let next = state.next_line();
-    if passed_over(line, len) {
-        return Ok(next);
-    }
-    if len < line.len() {
-        commands::run(first(line, len), space, out, text, next)
-    } else {
-        next.bad(text)
-    }
-}
-
-// Runs each line that ends in this part of the input, and gathers what follows the last.
-fn run_lines(
-    part: &[u8],
-    line: &mut [u8],
-    space: &mut [u8],
-    out: &mut [u8],
-    text: &mut [u8; 65536],
-    state: State,
-) -> io::Result<State> {
-    let mut now = state;
-    let mut i = 0;
-    while i < part.len() {
-        let b = part[i];
-        i += 1;
-        if b != b'\n' {
-            now.len = push(line, now.len, b);
-            continue;
+// Runs each line that ends in this part of the input, gathers what follows the last, and writes the answers.
+fn run_part(part: &[u8], room: &mut Room, state: &mut State) -> io::Result<()> {
+    for b in part {
+        if *b == b'\n' {
+            state.end_line(room)?;
+            room.line.clear();
+        } else if !room.line.is_full() {
+            // A line that is too long stays full.
+            room.line.push(*b);
         }
-        let next = end_line(line, space, out, text, now)?;
-        now = next;
     }
-    Ok(now)
-}
-
-// Runs the part's lines, with room for the bytes of the longest line and for the longest output, and writes the
-// answers.
-fn run_part(
-    part: &[u8],
-    line: &mut [u8],
-    text: &mut [u8; 65536],
-    state: State,
-) -> io::Result<State> {
-    let mut space = [0u8; MAX_LINE / 2];
-    let mut out = [0u8; MAX_BYTES];
-    let next = run_lines(part, line, &mut space, &mut out, text, state)?;
-    next.flushed(text)
-}
-
-// What follows the last line feed, run as if one ended it.
-fn run_last(line: &mut [u8], text: &mut [u8; 65536], state: State) -> io::Result<State> {
-    if state.len == 0 {
-        return Ok(state.stopped());
-    }
-    let next = run_part(b"\n", line, text, state)?;
-    Ok(next.stopped())
-}
-
-// Reads once, and answers how many bytes came: 0 where the input has ended, which a read that fails is taken for.
-fn read_part(mut from: Stdin, part: &mut [u8]) -> usize {
-    match from.read(part) {
-        Ok(count) => count,
-        Err(_) => 0,
-    }
-}
-
-// Runs the first `count` bytes of the part. With none, the input has ended.
-fn run_first(
-    part: &[u8],
-    count: usize,
-    line: &mut [u8],
-    text: &mut [u8; 65536],
-    state: State,
-) -> io::Result<State> {
-    if count == 0 {
-        return run_last(line, text, state);
-    }
-    run_part(first(part, count), line, text, state)
-}
-
-// A proved loop has to end, and nothing says that the input does. So the loop counts its turns, up to a number that no
-// run uses up.
-fn run_all(
-    from: Stdin,
-    start: State,
-    part: &mut [u8],
-    line: &mut [u8],
-    text: &mut [u8; 65536],
-) -> io::Result<()> {
-    let mut state = start;
-    for _ in 0..u64::MAX {
-        let count = read_part(from, part);
-        let next = run_first(part, count, line, text, state)?;
-        if next.stop {
-            return Ok(());
-        }
-        state = next;
-    }
-    Ok(())
+    state.flush()
 }
 
 fn main(rt: HostRuntime) -> io::Result<()> {
     let mut part = [0u8; 65536];
-    // A byte more than the longest line.
-    let mut line = [0u8; MAX_LINE + 1];
-    let mut text = [0u8; 65536];
-    let start = State::new(rt.stdout(), rt.stderr());
-    run_all(rt.stdin(), start, &mut part, &mut line, &mut text)
+    let mut room = Room::new();
+    let mut state = State::new(rt.stdout(), rt.stderr());
+    // A proved loop has to end, and nothing says that the input does. So the loop counts its turns, up to a number that
+    // no run uses up.
+    for _ in 0..u64::MAX {
+        // A read that fails is taken for the input's end.
+        let count = rt.stdin().read(&mut part).unwrap_or(0);
+        if count == 0 {
+            break;
+        }
+        run_part(&part[..count], &mut room, &mut state)?;
+    }
+    // What follows the last line feed runs as if one ended it.
+    if !room.line.is_empty() {
+        run_part(b"\n", &mut room, &mut state)?;
+    }
+    Ok(())
 }

@@ -1,83 +1,61 @@
 // What stays from line to line.
+use crate::room::Room;
 use modes::Session;
 use rules::{Direction, Mode};
-use script::print;
+use script::{Answers, MAX_LINE, Words};
 use std::io;
 use std::io::{Stderr, Stdout, Write};
 
-// `kept` is the session that `alike` compares with. `len` bytes of the present line are gathered, and `end` bytes of
-// output wait to be written to `to`; `errors` takes the numbers of bad lines. `ended` lines have ended. `stop` says
-// that the input has.
+// `kept` is the session that `alike` compares with, and `ended` lines have ended. `errors` takes the numbers of bad
+// lines.
 #[derive(Drop)]
 pub struct State {
-    pub to: Stdout,
-    pub errors: Stderr,
+    pub answers: Answers,
     pub session: Session,
     pub kept: Session,
-    pub len: usize,
-    pub end: usize,
-    pub ended: u64,
-    pub stop: bool,
+    errors: Stderr,
+    ended: u64,
 }
 
 impl State {
     // Both sessions are a refused opening's.
     pub fn new(to: Stdout, errors: Stderr) -> State {
-        let opened = Session::open(Mode::Ecb, Direction::Encrypt, 128, b"", b"");
-        let session = opened.session;
+        let session = Session::open(Mode::Ecb, Direction::Encrypt, 128, b"", b"").session;
         State {
-            to,
-            errors,
+            answers: Answers::new(to),
             session,
             kept: session,
-            len: 0,
-            end: 0,
+            errors,
             ended: 0,
-            stop: false,
         }
     }
 
-    pub fn with_session(mut self, session: Session) -> State {
-        self.session = session;
-        self
-    }
-
-    pub fn with_kept(mut self, kept: Session) -> State {
-        self.kept = kept;
-        self
-    }
-
-    pub fn with_end(mut self, end: usize) -> State {
-        self.end = end;
-        self
-    }
-
-    // A line has ended. Past 2^64 - 1 lines the count stays.
-    pub fn next_line(mut self) -> State {
-        self.len = 0;
-        if self.ended < 18446744073709551615 {
-            self.ended += 1;
+    // The gathered line has ended: runs it. Past 2^64 - 1 lines the count stays.
+    pub fn end_line(&mut self, room: &mut Room) -> io::Result<()> {
+        self.ended = self.ended.saturating_add(1);
+        match room.line.as_slice() {
+            [] | [b'#', ..] => Ok(()),
+            line if line.len() > MAX_LINE => self.bad(),
+            line => {
+                let words = Words::new(line, &mut room.space);
+                match self.run(words, &mut room.out) {
+                    Some(answered) => answered,
+                    None => self.bad(),
+                }
+            }
         }
-        self
     }
 
     // The answer to a line that is of no command's form, which is named on standard error.
-    pub fn bad(self, text: &mut [u8; 65536]) -> io::Result<State> {
-        let mut errors = self.errors;
+    fn bad(&mut self) -> io::Result<()> {
         let ended = self.ended;
         // Where standard error takes no words, the answer stands.
-        writeln!(errors, "replay: line {ended}: of no command's form").ok();
-        let end = print::bad(self.to, text, self.end)?;
-        Ok(self.with_end(end))
+        let _ = writeln!(self.errors, "replay: line {ended}: of no command's form");
+        writeln!(self.answers, "?")
     }
 
-    pub fn flushed(self, text: &[u8; 65536]) -> io::Result<State> {
-        let end = print::flush(self.to, text, self.end)?;
-        Ok(self.with_end(end))
-    }
-
-    pub fn stopped(mut self) -> State {
-        self.stop = true;
-        self
+    // Writes the answers that are gathered.
+    pub fn flush(&mut self) -> io::Result<()> {
+        self.answers.flush()
     }
 }

@@ -1,64 +1,51 @@
 // Whole texts: padding, and messages with ciphertext stealing.
+use crate::answered::answered;
+use crate::output::Output;
 use crate::state::State;
-use rules::Direction;
-use script::{Words, bytes, print};
+use script::{Hex, MAX_BYTES, Words};
 use std::io;
+use std::io::Write;
 
-// pad BITS OUTLEN PLACE FILL INPUT
-pub fn pad(
-    words: Words,
-    space: &[u8],
-    out: &mut [u8],
-    text: &mut [u8; 65536],
-    state: State,
-) -> io::Result<State> {
-    let padded = padding::pad(
-        bytes(space, words, 5),
-        words.number(1),
-        out,
-        words.number(3),
-    );
-    let mut at = print::number(state.to, text, state.end, padded.number as u64, b' ')?;
-    at = print::number(state.to, text, at, padded.bits as u64, b' ')?;
-    at = print::bytes(state.to, text, at, out, b'\n')?;
-    Ok(state.with_end(at))
-}
-
-// unpad BITS INPUT
-pub fn unpad(
-    words: Words,
-    space: &[u8],
-    text: &mut [u8; 65536],
-    state: State,
-) -> io::Result<State> {
-    let unpadded = padding::unpad(bytes(space, words, 2), words.number(1));
-    let mut at = print::number(state.to, text, state.end, unpadded.number as u64, b' ')?;
-    at = print::number(state.to, text, at, unpadded.bits as u64, b'\n')?;
-    Ok(state.with_end(at))
-}
-
-fn stolen(words: Words, space: &[u8], out: &mut [u8]) -> u8 {
-    let key = bytes(space, words, 2);
-    let iv = bytes(space, words, 3);
-    let bits = words.number(4);
-    let place = words.number(6);
-    let input = bytes(space, words, 8);
-    match words.direction(1) {
-        Direction::Encrypt => stealing::encrypt(key, iv, input, bits, out, place),
-        Direction::Decrypt => stealing::decrypt(key, iv, input, bits, out, place),
+impl State {
+    // pad BITS OUTLEN PLACE FILL INPUT
+    pub fn pad(
+        &mut self,
+        mut words: Words<'_>,
+        room: &mut [u8; MAX_BYTES],
+    ) -> Option<io::Result<()>> {
+        let bits = words.number()?;
+        let output = Output::read(&mut words)?;
+        let input = words.text()?;
+        words.end()?;
+        let out = output.lent(room);
+        let (number, length) = answered(padding::pad(input, bits, out, output.place), 0);
+        Some(writeln!(self.answers, "{} {} {}", number, length, Hex(out)))
     }
-}
 
-// steal E|D KEY IV BITS OUTLEN PLACE FILL INPUT
-pub fn steal(
-    words: Words,
-    space: &[u8],
-    out: &mut [u8],
-    text: &mut [u8; 65536],
-    state: State,
-) -> io::Result<State> {
-    let number = stolen(words, space, out);
-    let mut at = print::number(state.to, text, state.end, number as u64, b' ')?;
-    at = print::bytes(state.to, text, at, out, b'\n')?;
-    Ok(state.with_end(at))
+    // unpad BITS INPUT
+    pub fn unpad(&mut self, mut words: Words<'_>) -> Option<io::Result<()>> {
+        let bits = words.number()?;
+        let input = words.text()?;
+        words.end()?;
+        let (number, length) = answered(padding::unpad(input, bits), 0);
+        Some(writeln!(self.answers, "{number} {length}"))
+    }
+
+    // steal E|D KEY IV BITS OUTLEN PLACE FILL INPUT
+    pub fn steal(
+        &mut self,
+        mut words: Words<'_>,
+        room: &mut [u8; MAX_BYTES],
+    ) -> Option<io::Result<()>> {
+        let direction = words.direction()?;
+        let key = words.bytes()?;
+        let iv = words.bytes()?;
+        let bits = words.number()?;
+        let output = Output::read(&mut words)?;
+        let input = words.text()?;
+        words.end()?;
+        let out = output.lent(room);
+        let answer = stealing::process(direction, key, iv, input, bits, out, output.place);
+        Some(writeln!(self.answers, "{} {}", questions::number(answer), Hex(out)))
+    }
 }

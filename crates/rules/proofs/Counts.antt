@@ -2,7 +2,7 @@
 use Prim.Native.Nat.{ℕ, suc, ◌+◌, ◌-◌, ◌*◌, ◌/◌, ◌%◌, ◌≤◌, ◌<◌}
 use mathlib.Core.Path.{◌≡◌, sym, ap, ◌∙◌}
 use mathlib.Core.Logic.{◌↔◌}
-use native.Mathlib.Nat.{mul-le-mul_left, div-lt_iff_lt-mul, le-div_iff_mul-le, lt-div-mul-add, mul-add-div_right, div-add-mod', div-eq_of_lt, div-eq_of_lt-le, add_assoc, add-zero, zero-mul}
+use native.Mathlib.Nat.{mul-le-mul_left, div-lt_iff_lt-mul, le-div_iff_mul-le, lt-div-mul-add, mul-add-div_right, div-add-mod', div-eq_of_lt, add_assoc, add-zero, zero-mul}
 use native.Mathlib.Omega.{arith}
 use Rattle.rules.specs.Rules.{units_in}
 
@@ -51,11 +51,3 @@ whole-units {n} b pos whole = of-units (b / n) (omega (arith, div-add-mod' b n))
   where
     of-units : (k : ℕ) → b ≡ k * n → b ≡ units_in n b * n
     of-units k e = e ∙ ap (λ (m : ℕ). m * n) (sym (units_of k pos) ∙ ap (units_in n) (sym e))
-
--- By the bits past the last whole unit: none, or a short unit more.
-pub units_past : {n : ℕ} (b : ℕ) → 0 < n → units_in n b ≡ b / n + units_in n (b % n)
-units_past {n} b pos = ap (units_in n) (sym (div-add-mod' b n)) ∙ units_add (b / n) (b % n) pos
-
-pub units_short : {n : ℕ} (r : ℕ) → 0 < r → r < n → units_in n r ≡ 1
-unfolding units_in
-units_short {n} r some short = div-eq_of_lt-le {k = 1} n (omega arith) (omega arith)

@@ -1,7 +1,8 @@
 -- Modes as numbers, and directions as flags.
-use Rattle.std.specs.Prelude.{ℕ, ◌<◌, ◌≡◌, Bool, true, false, cond, eqb}
+use Rattle.std.specs.Prelude.{ℕ, ◌<◌, ◌≤◌, ◌≡◌, Bool, true, false, cond, eqb, Result, Ok, Err}
 use Rattle.rules.specs.declared.Mode.{Mode}
 use Rattle.rules.specs.declared.Mode.TheVariants.{Ecb, Cbc, Cfb, Ofb, Ctr}
+use Rattle.rules.specs.declared.numbers.NoMode.{NoMode}
 use Rattle.rules.specs.declared.Direction.{Direction}
 use Rattle.rules.specs.declared.Direction.TheVariants.{Encrypt, Decrypt}
 
@@ -19,6 +20,11 @@ mode_number Ctr = 4
 -- The mode of a number. A number that is no mode's is not asked for, and counts as CTR's.
 unfoldable pub mode_of : ℕ → Mode
 mode_of k = cond (eqb k 0) Ecb (cond (eqb k 1) Cbc (cond (eqb k 2) Cfb (cond (eqb k 3) Ofb Ctr)))
+
+-- A number is read as its mode, and any other as none.
+abbrev pub ReadsMode : ℕ → Result Mode NoMode → Type 0
+ReadsMode k (Ok mode) = (k < modes) × (mode ≡ mode_of k)
+ReadsMode k (Err none) = modes ≤ k
 
 -- Is it decryption?
 unfoldable pub is_decrypt : Direction → Bool

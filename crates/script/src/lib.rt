@@ -1,14 +1,11 @@
-// What a program that runs written lists of calls needs: a line's words, read by a form, and the text of the answers.
+// What a program that runs written lists of calls needs: a line's words, each read as of its kind, and the text of the
+// answers.
 #![tactic(auto)]
 
-mod form;
+mod answers;
 mod hex;
-mod kinds;
-mod numbers;
-mod parts;
-pub mod print;
 mod words;
 
-pub use form::{Words, block, bytes, output, read};
-pub use kinds::{MAX_BYTES, MAX_LINE};
-pub use parts::{copy, first};
+pub use answers::Answers;
+pub use hex::Hex;
+pub use words::{MAX_BYTES, MAX_LINE, Words};

@@ -1,68 +1,113 @@
-// A line's words, separated by single spaces. Between two spaces in a row is an empty word, which no command takes.
-ghost use Rattle.std.specs.Prelude.{◌≤◌, length};
+// A line's words, separated by single spaces. Between two spaces in a row is an empty word, which is of no kind.
+ghost use Rattle.std.specs.Prelude.{◌≤◌, length, IfSome};
 
-use crate::parts::first;
+use header::{direction_word, mode_word};
+use rules::{Direction, Mode};
 
-// How many spaces: one less than there are words.
-pub fn spaces(line: &[u8]) -> usize {
-    let mut count = 0;
-    let mut i = 0;
-    while i < line.len() {
-        if line[i] == b' ' {
-            count += 1;
-        }
-        i += 1;
-    }
-    count
+// The bytes of a text and of an output: 64 more than those of the largest feed, so that a list can go past it.
+pub const MAX_BYTES: usize = 65600;
+
+// The longest line: two digits for each byte of a text, and the other words.
+pub const MAX_LINE: usize = 2 * MAX_BYTES + 1920;
+
+// The words from the next one on; none where the line has ended. Each function below but the last takes the next word,
+// and answers none where there is none or it is of another kind. The bytes that words spell are put into `space`, of
+// which half of the longest line holds those of any line.
+#[derive(Drop)]
+pub struct Words<'a> {
+    rest: Option<&'a [u8]>,
+    space: &'a mut [u8],
 }
 
-// The index after the k-th space, or the line's end where it has fewer.
-fn behind_spaces(line: &[u8], k: usize) -> usize
-    ensures { result ≤ length line.now }
-{
-    let mut left = k;
-    let mut i = 0;
-    while i < line.len() {
-        if left == 0 {
-            return i;
+impl<'a> Words<'a> {
+    pub fn new(line: &'a [u8], space: &'a mut [u8]) -> Words<'a> {
+        Words {
+            rest: Some(line),
+            space,
         }
-        if line[i] == b' ' {
-            left -= 1;
-        }
-        i += 1;
     }
-    i
-}
 
-// The index of the first space, or the end where there is none.
-fn up_to_space(rest: &[u8]) -> usize {
-    let mut i = 0;
-    while i < rest.len() {
-        if rest[i] == b' ' {
-            return i;
+    pub fn word(&mut self) -> Option<&'a [u8]> {
+        let rest = self.rest?;
+        match digits::cut(rest, b' ') {
+            Some((word, behind)) => {
+                self.rest = Some(behind);
+                Some(word)
+            }
+            None => {
+                self.rest = None;
+                Some(rest)
+            }
         }
-        i += 1;
     }
-    i
-}
 
-// Word k, counted from 0; empty where the line has fewer words.
-pub fn word(line: &[u8], k: usize) -> &[u8] {
-    let start = behind_spaces(line, k);
-    let rest = &line[start..];
-    first(rest, up_to_space(rest))
-}
-
-pub fn same(word: &[u8], text: &[u8]) -> bool {
-    if word.len() != text.len() {
-        return false;
+    // ECB, CBC, CFB, OFB or CTR.
+    pub fn mode(&mut self) -> Option<Mode> {
+        mode_word(self.word()?)
     }
-    let mut i = 0;
-    while i < word.len() {
-        if word[i] != text[i] {
-            return false;
+
+    // E or D.
+    pub fn direction(&mut self) -> Option<Direction> {
+        direction_word(self.word()?)
+    }
+
+    // A decimal number that 64 bits hold: one or more digits, leading zeros among them.
+    pub fn number(&mut self) -> Option<usize> {
+        let word = self.word()?;
+        if word.is_empty() {
+            return None;
         }
-        i += 1;
+        word.iter().try_fold(0usize, |number, b| {
+            let digit = char::from(*b).to_digit(10)?;
+            number.checked_mul(10)?.checked_add(digit as usize)
+        })
     }
-    true
+
+    // A number of bytes, at most `MAX_BYTES`.
+    pub fn size(&mut self) -> Option<usize>
+        ensures { IfSome result (λ size. size ≤ MAX_BYTES) }
+    {
+        self.number().filter(|size| *size <= MAX_BYTES)
+    }
+
+    // Two digits to a byte, or `-` for none.
+    pub fn bytes(&mut self) -> Option<&'a [u8]> {
+        let word = self.word()?;
+        if word == b"-".as_slice() {
+            return Some(&[]);
+        }
+        if word.is_empty() || word.len() % 2 != 0 || !digits::all_digits(word) {
+            return None;
+        }
+        let bytes = self.space.split_off_mut(..word.len() / 2)?;
+        digits::decode(word, bytes);
+        Some(bytes)
+    }
+
+    // Bytes, at most `MAX_BYTES`.
+    pub fn text(&mut self) -> Option<&'a [u8]>
+        ensures { IfSome result (λ text. length text.now ≤ MAX_BYTES) }
+    {
+        self.bytes().filter(|text| text.len() <= MAX_BYTES)
+    }
+
+    pub fn byte(&mut self) -> Option<u8> {
+        match self.bytes()? {
+            [byte] => Some(*byte),
+            _ => None,
+        }
+    }
+
+    // 16 bytes.
+    pub fn block(&mut self) -> Option<[u8; 16]> {
+        self.bytes()?.as_array().copied()
+    }
+
+    // Has the line no further word?
+    pub fn end(&self) -> Option<()> {
+        match self.rest {
+            Some(_) => None,
+            None => Some(()),
+        }
+    }
 }

@@ -13,6 +13,7 @@ use Rattle.bits.specs.Texts.{bits, pack}
 use Rattle.bits.proofs.Texts.{length-bits, length-pack, bytes_for_whole, pack_bytes, bits-pack, pack-block}
 use Rattle.rules.specs.Rules.{unit_at}
 use Rattle.rules.proofs.Joined.{unit_full}
+use Rattle.questions.proofs.SentenceLaws.{room_exactly}
 use Rattle.modes.specs.declared.session.Session.{Session}
 use Rattle.modes.specs.declared.session.Fed.{Fed}
 use Rattle.modes.specs.Sessions.{Arrays, FedBy, fed_text, session_text, written}
@@ -23,7 +24,6 @@ use Rattle.modes.proofs.FeedLaws.{asked, accepted-count, accepted-whole, accepte
 use Rattle.single.specs.Single.{block_at, single_number, plain_block, SingleBy}
 use Rattle.single.specs.Promises.{BlockOfTheFeed, BlockByTheCalls}
 use Rattle.single.proofs.NumberLaws.{block_there, single-taken}
-use Rattle.single.proofs.AnswerLaws.{room_there}
 use Rattle.single.proofs.FeedLaws.{packed-block, block_of_the_feed}
 
 -- ---- the feed
@@ -77,10 +77,9 @@ unfolding BlockByTheCalls BlockOfTheFeed
 block_by_the_calls key iv text j r hk hi ht opening opened out place fed after feeding fed-yes out' place' number after' single single-yes =
     let (block, room) = single-taken key iv text j (length out') place' (number-zero single single-yes) in
     let (whole, there) = block_there (length text) j block in
-    let (inside, enough) = room_there (length out') place' room in
     let arrays : Arrays r.session = rw (opened-session opening opened) (opened-ready opening opened hk hi).arrays in
     let x = session_text r.session (bits text) in
     let size : length x ≡ length text * 8 = fed_length arrays feeding fed-yes in
     rw (single-output single single-yes, block_of_the_feed key iv text j r hk hi ht opening opened block)
-    (block_from out' place' (unit_at 128 x j) inside (unit_full x j (omega arith)))
+    (block_from out' place' (unit_at 128 x j) (omega (arith, (room_exactly (length out') place' 16).0 room)) (unit_full x j (omega arith)))
     ∙ sym (fed-block arrays feeding fed-yes j there)

@@ -1,12 +1,12 @@
 -- The neighbour of a block, and a block as the code reads it. Assumes nothing.
-use Prim.Native.Nat.{ℕ, zero, suc, ◌+◌, ◌-◌, ◌*◌, ◌≤◌}
-use mathlib.Core.Path.{◌≡◌, refl, sym, ap, ◌∙◌}
+use Prim.Native.Nat.{ℕ, zero, suc, ◌-◌, ◌*◌, ◌≤◌}
+use mathlib.Core.Path.{◌≡◌, sym, ap, ◌∙◌}
 use mathlib.Core.List.{List, []}
 use native.Mathlib.Nat.{le_of_eq}
 use native.Mathlib.Omega.{arith}
 use borrow.Author.Tests.{eq-eqb, ne_eqb}
 use lib.ListN.{length, take, drop, length-drop}
-use lib.Seq.{length-take-le, take_all, take-nil, drop-length}
+use lib.Seq.{length-take-le, take_all}
 use Rattle.bits.specs.Texts.{bits, pack_to}
 use Rattle.bits.specs.Blocks.{Bytes, Block}
 use Rattle.bits.proofs.Texts.{take-bits, take_bytes, drop_bytes, pack_to-bits}
@@ -24,22 +24,6 @@ module _ (iv text : List ℕ) (j : ℕ) {number : ℕ} (asked : number ≡ ask (
   pub answer-taken : number ≡ 0 → neighbour_of iv text j ≡ neighbour_answer iv text j
   unfolding neighbour_answer
   answer-taken none = rw (← asked, eq-eqb number 0 none)
-
-pub neighbour_first : (iv text : List ℕ) (j : ℕ) → j ≡ 0 → iv ≡ neighbour_of iv text j
-unfolding neighbour_of
-neighbour_first iv text j e = rw e
-
-pub neighbour_later : (iv text : List ℕ) (j : ℕ) → (j ≡ 0 → ⊥) → take ((j - 1) * 16 + 16 - (j - 1) * 16) (drop ((j - 1) * 16) text) ≡ neighbour_of iv text j
-unfolding neighbour_of block_at
-neighbour_later iv text zero some = absurd (some refl)
-neighbour_later iv text (suc j) some =
-    let e : suc j - 1 ≡ j = omega arith in
-    let f : j * 16 + 16 - j * 16 ≡ 16 = omega arith in
-    rw (e, f)
-
--- an empty part at the end
-pub nothing_behind : (iv : List ℕ) → take (length iv - length iv) (drop (length iv) iv) ≡ []
-nothing_behind iv = rw drop-length (take-nil (length iv - length iv))
 
 -- ---- blocks
 

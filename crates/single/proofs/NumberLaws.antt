@@ -1,13 +1,12 @@
 -- Questions 1, 2, 11 and 8 in their order: the number at each 'no', and what the number 0 grants. Assumes nothing.
 use Prim.Native.Nat.{ℕ, suc, ◌*◌, ◌/◌, ◌%◌, ◌≤◌, ◌<◌}
 use mathlib.Core.Path.{◌≡◌}
-use mathlib.Core.Bool.{Bool, true, false, cond, and-eq-true_iff}
+use mathlib.Core.Bool.{true, and-eq-true_iff}
 use mathlib.Core.List.{List}
 use native.Mathlib.Omega.{arith}
 use borrow.Author.Tests.{ltb-true, eqb-true}
 use lib.Dec.{eqb, ltb}
 use lib.ListN.{length}
-use Rattle.aes.specs.Calls.{key_ok}
 use Rattle.rules.specs.declared.Mode.TheVariants.{Cbc}
 use Rattle.questions.specs.Questions.{ask, iv_ok, room_ok}
 use Rattle.questions.specs.Promises.{AcceptedExactly}
@@ -38,33 +37,12 @@ block_there bytes j e =
     let below : j < bytes / 16 = ltb-true j (bytes / 16) inside in
     (eqb-true (bytes % 16) 0 whole, omega arith)
 
+pub there : (iv text : List ℕ) (j : ℕ) → ask (neighbour_questions iv text j) ≡ 0 → suc j * 16 ≤ length text
+there iv text j e = (block_there (length text) j (neighbour_taken iv text j e).block_yes).1
+
 -- ---- the single block's questions
 
 module _ (key iv text : List ℕ) (j size place : ℕ) where
-  pub number-1 : key_ok key ≡ false → 1 ≡ single_number key iv text j size place
-  unfolding single_number single_questions ask
-  number-1 a = rw a
-
-  module _ (a1 : key_ok key ≡ true) where
-    -- 2 and 11, as the neighbour's
-    pub number-early : {number : ℕ} → number ≡ ask (neighbour_questions iv text j) → (number ≡ 0 → ⊥) → number ≡ single_number key iv text j size place
-    unfolding single_number single_questions neighbour_questions ask
-    number-early {number} e some = rw a1 (go (iv_ok Cbc iv) (block_ok (length text) j) e)
-      where
-        go : (a b : Bool) → number ≡ cond a (cond b 0 11) 2 → number ≡ cond a (cond b (cond (room_ok size place 16) 0 8) 11) 2
-        go false b e = e
-        go true false e = e
-        go true true e = absurd (some e)
-
-    module _ (n : NeighbourTaken iv text j) where
-      pub number-8 : room_ok size place 16 ≡ false → 8 ≡ single_number key iv text j size place
-      unfolding single_number single_questions ask
-      number-8 a = rw (a1, n.iv_yes, n.block_yes, a)
-
-      pub number-0 : room_ok size place 16 ≡ true → 0 ≡ single_number key iv text j size place
-      unfolding single_number single_questions ask
-      number-0 a = rw (a1, n.iv_yes, n.block_yes, a)
-
   -- at 0, block j is there and so is the room
   pub single-taken : single_number key iv text j size place ≡ 0 → (block_ok (length text) j ≡ true) × (room_ok size place 16 ≡ true)
   unfolding AcceptedExactly single_number single_questions

@@ -1,9 +1,9 @@
--- What a call answers, refused and accepted. Assumes nothing.
+-- What an accepted call answers. Assumes nothing.
 use Prim.Native.Nat.{ℕ}
 use mathlib.Core.Path.{◌≡◌, sym}
-use mathlib.Core.Bool.{true, false}
+use mathlib.Core.Bool.{true}
 use mathlib.Core.List.{List}
-use borrow.Author.Tests.{eq-eqb, ne_eqb}
+use borrow.Author.Tests.{eq-eqb}
 use lib.Dec.{eqb}
 use lib.ListN.{length}
 use Rattle.aes.specs.Calls.{encrypted, decrypted}
@@ -13,11 +13,6 @@ use Rattle.stolen.specs.Stealing.{stolen_text}
 use Rattle.stealing.specs.Calls.{steal_number, StolenBy}
 
 module _ (dir : Direction) (key iv input : List ℕ) (count : ℕ) (out : List ℕ) (place : ℕ) where
-  pub steal-refused : {number : ℕ} → number ≡ steal_number key iv (length input) count (length out) place → (number ≡ 0 → ⊥) → StolenBy dir key iv input count out place number out
-  steal-refused {number} asked some =
-      let e : eqb (steal_number key iv (length input) count (length out) place) 0 ≡ false = rw (← asked) (ne_eqb number 0 some) in
-      record { answer = asked; output = rw e }
-
   pub steal-accepted : {after : List ℕ} → steal_number key iv (length input) count (length out) place ≡ 0
       → after ≡ written out place (stolen_text (encrypted key) (decrypted key) dir iv (fed_text input count)) → StolenBy dir key iv input count out place 0 after
   steal-accepted asked after_is =

@@ -20,7 +20,7 @@ use Rattle.modes.specs.declared.session.Session.{Session}
 use Rattle.modes.specs.declared.session.Fed.{Fed}
 use Rattle.modes.specs.Sessions.{Arrays, feed_number_within, feed_number, fed_text, session_text, session_register, fed_session, written, FedBy}
 use Rattle.modes.proofs.SessionLaws.{text-length, ciphers}
-use Rattle.modes.proofs.FeedLaws.{accepted-count, accepted-whole, accepted-ready, accepted-session, accepted-output, accepted-named}
+use Rattle.modes.proofs.FeedLaws.{accepted-count, accepted-whole, accepted-ready, accepted-session, accepted-output}
 use Rattle.modes.proofs.WorkLaws.{drop-take, put_next}
 use Rattle.ending.specs.declared.Ending.{Ending}
 use Rattle.stolen.specs.Stealing.{full_blocks, stolen_text}
@@ -29,7 +29,7 @@ use Rattle.stolen.proofs.RestLaws.{fed-and-ended}
 use Rattle.stealing.proofs.KeyLaws.{length_fed}
 use Rattle.stealing.proofs.NumberLaws.{front_bits, end_bits, front_number}
 
-module _ {s : Session} {input : List ℕ} {count : ℕ} {out : List ℕ} (b : Begins s input count out) (arrays : Arrays s) where
+module _ {s : Session} {input : List ℕ} {count : ℕ} {out : List ℕ} (b : Begins s input count out) where
   pub front-accepted : feed_number s (length input) (front_bits count) (length out) 0 ≡ 0
   unfolding feed_number_within
   front-accepted = rw (b.mode, b.unit, b.counter, b.not_closed, b.no_units) (front_number s.rounds (length input) count (length out) b.rounds_good b.there b.small b.room)
@@ -72,34 +72,31 @@ module _ {s : Session} {input : List ℕ} {count : ℕ} {out : List ℕ} (b : Be
       let bytes : front_bits count / 8 * 8 ≡ front_bits count = omega arith in
       rw (message-length, drop-take, ← drop_bits, bytes, size)
 
-  -- what the feed of the front leaves, and what the last two blocks then leave
-  module _ {r : Fed} {after : List ℕ} (fed : FedBy s input (front_bits count) out 0 r after) where
+  accepted : {r : Fed} {after : List ℕ} → FedBy s input (front_bits count) out 0 r after → r.number ≡ 0
+  accepted fed = fed.answer ∙ front-accepted
+
+  pub fed-session : {r : Fed} {after : List ℕ} → FedBy s input (front_bits count) out 0 r after → r.session ≡ fed_session s (fed_text input (front_bits count))
+  fed-session fed = accepted-session fed (accepted fed)
+
+  -- what the feed of the front wrote, and what the last two blocks then leave
+  module _ (arrays : Arrays s) {r : Fed} {after : List ℕ} (fed : FedBy s input (front_bits count) out 0 r after) where
     abbrev front : List Bool
     front = session_text s (fed_text input (front_bits count))
 
-    accepted : r.number ≡ 0
-    accepted = fed.answer ∙ front-accepted
-
-    pub fed-session : r.session ≡ fed_session s (fed_text input (front_bits count))
-    fed-session = accepted-session fed accepted
-
-    pub fed-size : length after ≡ length out
-    fed-size = (accepted-named fed accepted arrays).same_size
-
     fed_length : length front ≡ front_bits count
-    fed_length = text-length (accepted-ready fed accepted arrays) (fed_text input (front_bits count)) (accepted-whole fed accepted) ∙ accepted-count fed accepted
+    fed_length = text-length (accepted-ready fed (accepted fed) arrays) (fed_text input (front_bits count)) (accepted-whole fed (accepted fed)) ∙ accepted-count fed (accepted fed)
 
     fed-out : after ≡ pack front ++ drop (bytes_for (length front)) out
     unfolding written
-    fed-out = accepted-output fed accepted ∙ rw (zero-add, length-pack)
+    fed-out = accepted-output fed (accepted fed) ∙ rw (zero-add, length-pack)
 
     ended-text : {ending : List Bool}
         → ending ≡ stolen_text (Enc r.session.rounds r.session.keys) (Dec r.session.rounds r.session.keys) r.session.direction r.session.register (take (128 + end_bits count) (bits (drop (front_bits count / 8) input)))
         → front ++ ending ≡ stolen_text E D s.direction s.register x
     unfolding fed_session
     ended-text ended =
-        ap₂ (λ (a e : List Bool). a ++ e) front-text-is (rw (fed-session, front-register-is, rest-is) at ended)
-        ∙ fed-and-ended (ciphers (accepted-ready fed accepted arrays)) arrays.register x (rw message-length b.more_than_16) s.direction
+        ap₂ (λ (a e : List Bool). a ++ e) front-text-is (rw (fed-session fed, front-register-is, rest-is) at ended)
+        ∙ fed-and-ended (ciphers (accepted-ready fed (accepted fed) arrays)) arrays.register x (rw message-length b.more_than_16) s.direction
 
     pub message-written : {l : Ending} {final : List ℕ} → Block l.block → Block l.end
         → bits l.block ++ take (end_bits count) (bits l.end) ≡ stolen_text (Enc r.session.rounds r.session.keys) (Dec r.session.rounds r.session.keys) r.session.direction r.session.register (take (128 + end_bits count) (bits (drop (front_bits count / 8) input)))

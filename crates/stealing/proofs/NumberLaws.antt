@@ -2,7 +2,7 @@
 -- the message's. Assumes nothing.
 use Prim.Native.Nat.{ℕ, ◌+◌, ◌-◌, ◌*◌, ◌/◌, ◌%◌, ◌≤◌, ◌<◌}
 use mathlib.Core.Path.{◌≡◌}
-use mathlib.Core.Bool.{Bool, true, false, cond}
+use mathlib.Core.Bool.{true, false}
 use mathlib.Core.List.{List}
 use native.Mathlib.Omega.{arith}
 use borrow.Author.Tests.{eqb-true, ltb-true, eq-eqb, le-leb}
@@ -14,21 +14,12 @@ use Rattle.rules.specs.declared.Mode.TheVariants.{Cbc}
 use Rattle.rules.specs.Rules.{units_in}
 use Rattle.rules.specs.Lengths.{unit_length_ok, counter_length_ok, whole_units}
 use Rattle.questions.proofs.QuestionLaws.{opening_taken, counters_enough, first_yes, accepted_exactly, both_true, bits_small, bits_there, room_inside, room_there}
-use Rattle.questions.specs.Questions.{ask, max_bits, max_units, session_ok, bits_ok, room_ok, units_ok, feed_questions, iv_ok, open_questions}
+use Rattle.questions.specs.Questions.{ask, max_bits, max_units, session_ok, bits_ok, room_ok, units_ok, feed_questions, iv_ok}
 use Rattle.questions.specs.Promises.{AcceptedExactly}
 use Rattle.modes.specs.Sessions.{open_number}
 use Rattle.stealing.specs.Calls.{message_ok, message_questions, steal_questions, steal_number}
 
 module _ (key iv : List ℕ) (bytes count size place : ℕ) where
-  pub opening-no : {number : ℕ} → number ≡ open_number Cbc 128 128 key iv → (number ≡ 0 → ⊥) → number ≡ steal_number key iv bytes count size place
-  unfolding open_number open_questions steal_number steal_questions ask unit_length_ok counter_length_ok
-  opening-no {number} e some = go (key_ok key) (iv_ok Cbc iv) e
-    where
-      go : (a b : Bool) → number ≡ cond a (cond b 0 2) 1 → number ≡ cond a (cond b (ask (message_questions bytes count size place)) 2) 1
-      go false b e = e
-      go true false e = e
-      go true true e = absurd (some e)
-
   both_yes : key_ok key ≡ true → iv_ok Cbc iv ≡ true → steal_number key iv bytes count size place ≡ ask (message_questions bytes count size place)
   unfolding steal_number steal_questions ask
   both_yes q1 q2 = rw (q1, q2)

@@ -4,4 +4,4 @@
 
 mod message;
 
-pub use message::{decrypt, encrypt};
+pub use message::process;

@@ -1,19 +1,23 @@
-// The steps of a round, row by row.
+// The steps of a round, row by row. The rows of a state are written out, with no `map` or `array::from_fn`: a proof
+// learns nothing of an array that a closure gives.
 ghost use Rattle.std.specs.Prelude.{◌≡◌, ◌+◌, ◌*◌, ◌%◌, ◌<◌, get_or};
 ghost use Rattle.bits.specs.Xor.{xor};
 ghost use Rattle.field.specs.Field.{double};
 ghost use Rattle.field.specs.Rows.{four};
 ghost use Rattle.steps.specs.Steps.{bytewise, shift_rows, inv_shift_rows, mix_columns, inv_mix_columns, add_round_key};
 
+use std::array;
+
 // SubBytes or InvSubBytes, by the table that is lent.
 pub fn sub_bytes(table: &[u8; 256], s: [[u8; 4]; 4]) -> [[u8; 4]; 4]
     ensures { result ≡ bytewise (λ b. get_or table.now b 0) s }
 {
+    let [a, b, c, d] = s;
     [
-        boxes::substitute_row(table, s[0]),
-        boxes::substitute_row(table, s[1]),
-        boxes::substitute_row(table, s[2]),
-        boxes::substitute_row(table, s[3]),
+        boxes::substitute_row(table, a),
+        boxes::substitute_row(table, b),
+        boxes::substitute_row(table, c),
+        boxes::substitute_row(table, d),
     ]
 }
 
@@ -22,34 +26,21 @@ fn turned(row: [u8; 4], by: usize) -> [u8; 4]
     requires { by < 4 }
     ensures { result ≡ four (λ i. get_or row ((by + i) % 4) 0) }
 {
-    [
-        row[by % 4],
-        row[(by + 1) % 4],
-        row[(by + 2) % 4],
-        row[(by + 3) % 4],
-    ]
+    array::from_fn(|i| row[(by + i) % 4])
 }
 
 pub fn shift_rows(s: [[u8; 4]; 4]) -> [[u8; 4]; 4]
     ensures { result ≡ shift_rows s }
 {
-    [
-        turned(s[0], 0),
-        turned(s[1], 1),
-        turned(s[2], 2),
-        turned(s[3], 3),
-    ]
+    let [a, b, c, d] = s;
+    [turned(a, 0), turned(b, 1), turned(c, 2), turned(d, 3)]
 }
 
 pub fn inv_shift_rows(s: [[u8; 4]; 4]) -> [[u8; 4]; 4]
     ensures { result ≡ inv_shift_rows s }
 {
-    [
-        turned(s[0], 0),
-        turned(s[1], 3),
-        turned(s[2], 2),
-        turned(s[3], 1),
-    ]
+    let [a, b, c, d] = s;
+    [turned(a, 0), turned(b, 3), turned(c, 2), turned(d, 1)]
 }
 
 // 02 a + 03 b + c + d, at each byte of four rows.
@@ -64,10 +55,7 @@ fn mix_row(a: [u8; 4], b: [u8; 4], c: [u8; 4], d: [u8; 4]) -> [u8; 4]
 pub fn mix_columns(s: [[u8; 4]; 4]) -> [[u8; 4]; 4]
     ensures { result ≡ mix_columns s }
 {
-    let a = s[0];
-    let b = s[1];
-    let c = s[2];
-    let d = s[3];
+    let [a, b, c, d] = s;
     [
         mix_row(a, b, c, d),
         mix_row(b, c, d, a),
@@ -89,10 +77,7 @@ fn unmix_row(a: [u8; 4], c: [u8; 4]) -> [u8; 4]
 pub fn inv_mix_columns(s: [[u8; 4]; 4]) -> [[u8; 4]; 4]
     ensures { result ≡ inv_mix_columns s }
 {
-    let a = s[0];
-    let b = s[1];
-    let c = s[2];
-    let d = s[3];
+    let [a, b, c, d] = s;
     mix_columns([
         unmix_row(a, c),
         unmix_row(b, d),
@@ -106,23 +91,21 @@ pub fn key_row(keys: &[u8; 240], at: usize, row: [u8; 4]) -> [u8; 4]
     requires { at < 228 }
     ensures { result ≡ four (λ i. xor (get_or row i 0) (get_or keys.now (at + 4 * i) 0)) }
 {
-    [
-        row[0] ^ keys[at],
-        row[1] ^ keys[at + 4],
-        row[2] ^ keys[at + 8],
-        row[3] ^ keys[at + 12],
-    ]
+    array::from_fn(|i| row[i] ^ keys[at + 4 * i])
 }
 
+// Put in line: the compiler keeps the rows in registers then.
+#[inline(always)]
 pub fn add_round_key(keys: &[u8; 240], round: usize, s: [[u8; 4]; 4]) -> [[u8; 4]; 4]
     requires { round < 15 }
     ensures { result ≡ add_round_key keys.now round s }
 {
     let at = 16 * round;
+    let [a, b, c, d] = s;
     [
-        key_row(keys, at, s[0]),
-        key_row(keys, at + 1, s[1]),
-        key_row(keys, at + 2, s[2]),
-        key_row(keys, at + 3, s[3]),
+        key_row(keys, at, a),
+        key_row(keys, at + 1, b),
+        key_row(keys, at + 2, c),
+        key_row(keys, at + 3, d),
     ]
 }

@@ -2,6 +2,8 @@
 ghost use Rattle.std.specs.Prelude.{◌≡◌};
 ghost use Rattle.steps.specs.State.{from_block, to_block};
 
+use std::array;
+
 pub fn load(b: [u8; 16]) -> [[u8; 4]; 4]
     ensures { result ≡ from_block b }
 {
@@ -16,8 +18,5 @@ pub fn load(b: [u8; 16]) -> [[u8; 4]; 4]
 pub fn store(s: [[u8; 4]; 4]) -> [u8; 16]
     ensures { result ≡ to_block s }
 {
-    [
-        s[0][0], s[1][0], s[2][0], s[3][0], s[0][1], s[1][1], s[2][1], s[3][1], s[0][2], s[1][2],
-        s[2][2], s[3][2], s[0][3], s[1][3], s[2][3], s[3][3],
-    ]
+    array::from_fn(|i| s[i % 4][i / 4])
 }

@@ -16,9 +16,8 @@ use Rattle.bits.specs.Blocks.{Block}
 use Rattle.bits.specs.Counter.{increment}
 use Rattle.bits.proofs.Texts.{bits-block, block-pack-bits, pack-block}
 use Rattle.bits.proofs.Xors.{bits-xor_bytes, take-xor_bits, xor_bytes-block}
-use Rattle.cipher.specs.Cipher.{Enc, Dec}
 use Rattle.prepared.specs.declared.counted.Ran.{Ran}
-use Rattle.prepared.specs.Prepared.{prepared_block, PreparedFor, Counted}
+use Rattle.prepared.specs.Prepared.{Counted}
 use Rattle.rules.specs.declared.Mode.{Mode}
 use Rattle.rules.specs.declared.Mode.TheVariants.{Ecb, Cbc, Cfb, Ofb, Ctr}
 use Rattle.rules.specs.declared.Direction.TheVariants.{Encrypt, Decrypt}
@@ -26,7 +25,6 @@ use Rattle.rules.specs.declared.Direction.{Direction}
 use Rattle.rules.specs.Numbers.{is_decrypt}
 use Rattle.rules.specs.Rules.{msb, mask, next, cipher_unit, plain_unit, out_of, next_of}
 use Rattle.rules.proofs.Units.{UnitLength}
-use Rattle.rules.proofs.AnyCounter.{nextOf-any}
 use Rattle.units.specs.declared.unit.Step.{Step}
 use Rattle.units.specs.Inner.Turns.{runs_dec, Runs, out_block, Turned, unit_size_ok}
 
@@ -70,56 +68,60 @@ module _ (f : List ℕ → List ℕ) {register unit : List ℕ} (hr : Block regi
       → Turned f mode dir m register unit size (step_by ran out after)
   by-run run all text next = record { out_bits = text; out-block = all; register_after = next; one_run = run.one_run }
 
-  pub ecb-turned : (dir : Direction) → Counted f unit ran → Turned f Ecb dir 128 register unit 128 (step_by ran ran.block register)
+  pub ecb-turned : (dir : Direction) (m : ℕ) → Counted f unit ran → Turned f Ecb dir m register unit 128 (step_by ran ran.block register)
   unfolding out_block out_of next_of cipher_unit plain_unit next
-  ecb-turned Encrypt run = by-run run run.made (whole hb ∙ ap bits (run.made ∙ ap f (sym (packed hu)))) refl
-  ecb-turned Decrypt run = by-run run run.made (whole hb ∙ ap bits (run.made ∙ ap f (sym (packed hu)))) refl
+  ecb-turned Encrypt m run = by-run run run.made (whole hb ∙ ap bits (run.made ∙ ap f (sym (packed hu)))) refl
+  ecb-turned Decrypt m run = by-run run run.made (whole hb ∙ ap bits (run.made ∙ ap f (sym (packed hu)))) refl
 
-  pub cbc-encrypted : {added : List ℕ} → added ≡ xor_bytes unit register → Counted f added ran
-      → Turned f Cbc Encrypt 128 register unit 128 (step_by ran ran.block ran.block)
+  pub cbc-encrypted : {added : List ℕ} (m : ℕ) → added ≡ xor_bytes unit register → Counted f added ran
+      → Turned f Cbc Encrypt m register unit 128 (step_by ran ran.block ran.block)
   unfolding out_block out_of next_of cipher_unit next
-  cbc-encrypted e run =
+  cbc-encrypted m e run =
       let same : ran.block ≡ f (xor_bytes (pack (take 128 (bits unit))) register) = run.made ∙ ap f (e ∙ ap (λ u. xor_bytes u register) (sym (packed hu))) in
       by-run run (run.made ∙ ap f e) (whole hb ∙ ap bits same) (sym (block-pack-bits hb) ∙ ap (λ b. pack (bits b)) same)
 
-  pub cbc-decrypted : {out : List ℕ} → Block out → Counted f unit ran → out ≡ xor_bytes ran.block register
-      → Turned f Cbc Decrypt 128 register unit 128 (step_by ran out unit)
+  pub cbc-decrypted : {out : List ℕ} (m : ℕ) → Block out → Counted f unit ran → out ≡ xor_bytes ran.block register
+      → Turned f Cbc Decrypt m register unit 128 (step_by ran out unit)
   unfolding out_block out_of next_of plain_unit next
-  cbc-decrypted ho run e = by-run run (e ∙ ap (λ b. xor_bytes b register) run.made) (whole ho ∙ ap bits (e ∙ ap (λ b. xor_bytes b register) (run.made ∙ ap f (sym (packed hu))))) (sym (packed hu))
+  cbc-decrypted m ho run e = by-run run (e ∙ ap (λ b. xor_bytes b register) run.made) (whole ho ∙ ap bits (e ∙ ap (λ b. xor_bytes b register) (run.made ∙ ap f (sym (packed hu))))) (sym (packed hu))
 
-  -- in CFB, OFB and CTR the first bits of the register's block are added
-  module _ (size : ℕ) (le : size ≤ 128) (run : Counted f register ran) {out : List ℕ} (g : out ≡ xor_bytes unit ran.block) where
-    text : take size (bits out) ≡ mask (take size (bits unit)) (f register)
-    text = ap (λ b. take size (bits b)) g ∙ masked size hu hb le ∙ ap (mask (take size (bits unit))) run.made
+  -- the first bits of the register's block are added
+  pub ofb-turned : (dir : Direction) (m : ℕ) {out : List ℕ} → Counted f register ran → out ≡ xor_bytes unit ran.block
+      → (size : ℕ) → size ≤ 128 → Turned f Ofb dir m register unit size (step_by ran out ran.block)
+  unfolding out_block out_of next_of cipher_unit plain_unit next
+  ofb-turned dir m {out} run g size le = go dir
+    where
+      text : take size (bits out) ≡ mask (take size (bits unit)) (f register)
+      text = ap (λ b. take size (bits b)) g ∙ masked size hu hb le ∙ ap (mask (take size (bits unit))) run.made
 
-    all-bits : out ≡ xor_bytes unit (f register)
-    all-bits = g ∙ ap (xor_bytes unit) run.made
+      go : (dir : Direction) → Turned f Ofb dir m register unit size (step_by ran out ran.block)
+      go Encrypt = by-run run (g ∙ ap (xor_bytes unit) run.made) text run.made
+      go Decrypt = by-run run (g ∙ ap (xor_bytes unit) run.made) text run.made
 
-    pub cfb-encrypted : {after : List ℕ} → Block out → after ≡ pack_to 16 (drop size (bits register) ++ take size (bits out))
-        → Turned f Cfb Encrypt 128 register unit size (step_by ran out after)
-    unfolding out_block out_of next_of cipher_unit next
-    cfb-encrypted ho h = by-run run all-bits text (h ∙ shifted size hr ho le ∙ ap (λ c. pack (shift_in (bits register) c)) text)
+-- In CFB and CTR a unit becomes the same, and only the register after it is another.
+module _ {f : List ℕ → List ℕ} {m : ℕ} {register unit : List ℕ} {size : ℕ} {s : Step} {after : List ℕ} where
+  pub cfb-encrypted : Block register → Block s.out → size ≤ 128 → Turned f Ofb Encrypt m register unit size s
+      → after ≡ pack_to 16 (drop size (bits register) ++ take size (bits s.out)) → Turned f Cfb Encrypt m register unit size (record { out = s.out; register = after; runs = s.runs })
+  unfolding out_block out_of next_of cipher_unit next
+  cfb-encrypted hr ho le t h =
+      record {
+        out_bits = t.out_bits;
+        out-block = t.out-block;
+        register_after = h ∙ shifted size hr ho le ∙ ap (λ c. pack (shift_in (bits register) c)) t.out_bits;
+        one_run = t.one_run;
+      }
 
-    pub cfb-decrypted : {after : List ℕ} → after ≡ pack_to 16 (drop size (bits register) ++ take size (bits unit))
-        → Turned f Cfb Decrypt 128 register unit size (step_by ran out after)
-    unfolding out_block out_of next_of plain_unit next
-    cfb-decrypted h = by-run run all-bits text (h ∙ shifted size hr hu le)
+  pub cfb-decrypted : Block register → Block unit → size ≤ 128 → Turned f Ofb Decrypt m register unit size s
+      → after ≡ pack_to 16 (drop size (bits register) ++ take size (bits unit)) → Turned f Cfb Decrypt m register unit size (record { out = s.out; register = after; runs = s.runs })
+  unfolding out_block out_of next_of plain_unit next
+  cfb-decrypted hr hu le t h =
+      record { out_bits = t.out_bits; out-block = t.out-block; register_after = h ∙ shifted size hr hu le; one_run = t.one_run }
 
-    pub ofb-turned : (dir : Direction) → Turned f Ofb dir 128 register unit size (step_by ran out ran.block)
-    unfolding out_block out_of next_of cipher_unit plain_unit next
-    ofb-turned Encrypt = by-run run all-bits text run.made
-    ofb-turned Decrypt = by-run run all-bits text run.made
-
-    pub ctr-turned : (dir : Direction) {m : ℕ} {after : List ℕ} → after ≡ increment m register → Turned f Ctr dir m register unit size (step_by ran out after)
-    unfolding out_block out_of next_of cipher_unit plain_unit next
-    ctr-turned Encrypt h = by-run run all-bits text h
-    ctr-turned Decrypt h = by-run run all-bits text h
-
--- Only CTR looks at m.
-pub any_counter : {f : List ℕ → List ℕ} {mode : Mode} {dir : Direction} {m m' : ℕ} {register unit : List ℕ} {size : ℕ} {r : Step} → (mode ≡ Ctr → m ≡ m')
-    → Turned f mode dir m register unit size r → Turned f mode dir m' register unit size r
-any_counter {f} {mode} {dir} {register = register} free t =
-    record { out_bits = t.out_bits; out-block = t.out-block; register_after = t.register_after ∙ nextOf-any f f mode free dir register _; one_run = t.one_run }
+  pub ctr-turned : (dir : Direction) → Turned f Ofb dir m register unit size s → after ≡ increment m register
+      → Turned f Ctr dir m register unit size (record { out = s.out; register = after; runs = s.runs })
+  unfolding out_block out_of next_of cipher_unit plain_unit next
+  ctr-turned Encrypt t h = record { out_bits = t.out_bits; out-block = t.out-block; register_after = h; one_run = t.one_run }
+  ctr-turned Decrypt t h = record { out_bits = t.out_bits; out-block = t.out-block; register_after = h; one_run = t.one_run }
 
 -- ---- a unit's bits, by the mode
 
@@ -162,8 +164,3 @@ module _ {f enc dec : List ℕ → List ℕ} {r : List ℕ} (block : Block r) (u
   next-same Ofb Decrypt m runs l = rw (runs.same r block)
   next-same Ctr Encrypt m runs l = refl
   next-same Ctr Decrypt m runs l = refl
-
--- What was prepared runs it.
-pub runs_prepared : {dec : Bool} {mode : Mode} {dir : Direction} {rounds : ℕ} {keys p : List ℕ} → PreparedFor dec rounds keys p → dec ≡ runs_dec mode dir
-    → Runs (prepared_block p) (Enc rounds keys) (Dec rounds keys) mode dir
-runs_prepared p e = record { same = λ b block. p.same b block ∙ rw e }

@@ -3,4 +3,4 @@
 
 mod unit;
 
-pub use unit::{Step, runs_dec, turn};
+pub use unit::{Rule, Step, runs_dec};

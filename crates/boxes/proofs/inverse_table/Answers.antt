@@ -1,13 +1,14 @@
--- The invariant: the entries so far are the inverses of their places. Assumes nothing.
-use mathlib.Core.Path.{ap, ◌∙◌}
-use native.Mathlib.Omega.{arith}
+-- Each entry is SubBytes of its place with the map undone. Assumes nothing.
+use Rattle.std.proofs.Common.{rules, get_or, ap, ◌∙◌}
 use Rattle.boxes.specs.Boxes.{unaffine}
+use Rattle.boxes.proofs.ArrayLaws.{made-at}
 use Rattle.boxes.proofs.BoxLaws.{unaffine_sub}
-use Rattle.boxes.proofs.TableLaws.{filled_next}
 use Rattle.boxes.proofs.inverse_table.Goals as goal
 
-pub loop-i-preserved : goal.loop-i-preserved
-loop-i-preserved c =
-    let l = c.loop-i in
-    let entry = c.sbox-sbox.ensures.entry l.i (omega arith) in
-    filled_next l.invariant (omega arith) (c.unaffine.ensures ∙ ap unaffine entry ∙ unaffine_sub l.i)
+pub returns : goal.returns
+returns c =
+    let items = c.from_fn.ensures.items in
+    record {
+      entries = items.long;
+      entry = λ b h. made-at _ (λ i. unaffine (get_or c.sbox-sbox.result i 0)) _ (λ i y f' k. search rules) items b h 0 ∙ ap unaffine (c.sbox-sbox.ensures.entry b h) ∙ unaffine_sub b;
+    }

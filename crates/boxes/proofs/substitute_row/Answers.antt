@@ -1,14 +1,9 @@
--- Each of the four calls gives an entry of the table. Assumes nothing.
-use mathlib.Core.Path.{refl}
+-- The entries of the table, one by one. Assumes nothing.
+use Rattle.std.proofs.Common.{rules, get_or}
 use Rattle.field.specs.Rows.{four}
+use Rattle.boxes.proofs.ArrayLaws.{mapped}
 use Rattle.boxes.proofs.substitute_row.Goals as goal
 
 pub returns : goal.returns
 unfolding four
-returns c =
-    rw (
-      c.substitute.ensures,
-      c.substitute-2.ensures,
-      c.substitute-3.ensures,
-      c.substitute-4.ensures,
-    ) refl
+returns c = mapped _ (λ b. get_or c.args.table.now b 0) _ (λ x y f' k. search rules) 0 0 c.map.ensures.items

@@ -1,7 +1,7 @@
 -- What the rounds make of a state, by any words p that stand where prepared ones do: the table from word 0 on, 256
 -- words to a row; from 1024 on the bytes of the last round, a word to each; from 1280 on the words of the round keys;
 -- at 1340 the rounds; at 1341 the direction.
-use Rattle.std.specs.Prelude.{ℕ, zero, suc, ◌+◌, ◌-◌, ◌*◌, ◌%◌, Bool, cond, List, [], ◌∷◌, ltb, get_or}
+use Rattle.std.specs.Prelude.{ℕ, zero, suc, ◌+◌, ◌-◌, ◌*◌, ◌%◌, Bool, cond, List, ltb, get_or}
 use Rattle.bits.specs.Xor.{xor}
 use Rattle.field.specs.Rows.{four}
 use Rattle.steps.specs.State.{at, state, from_block, to_block}
@@ -15,23 +15,23 @@ entry_sum p x r = xor (row 0) (xor (row 1) (xor (row 2) (row 3)))
     row : ℕ → ℕ
     row k = byte_at (get_or p (256 * k + x k) 0) r
 
--- The bytes of four words, one of each, that ShiftRows brings into a column: byte k of word k.
-unfoldable pub drawn : ℕ → ℕ → ℕ → ℕ → ℕ → ℕ
-drawn a b c d k = byte_at (get_or (a ∷ b ∷ c ∷ d ∷ []) k 0) k
+-- The bytes that ShiftRows brings into column c: byte k comes from the k-th column to the right.
+unfoldable pub drawn : List (List ℕ) → ℕ → ℕ → ℕ
+drawn s c k = at s k ((c + k) % 4)
 
--- A column after a round, and after the last one, from these bytes and a word of the round key.
-unfoldable pub round_column : List ℕ → (ℕ → ℕ) → ℕ → List ℕ
-round_column p x key = four (λ r. xor (entry_sum p x r) (byte_at key r))
+-- A column after a round but for its key, and after the last one, from these bytes.
+unfoldable pub round_column : List ℕ → List ℕ → List ℕ
+round_column p x = four (entry_sum p (λ k. get_or x k 0))
 
 unfoldable pub last_byte : List ℕ → ℕ → ℕ
 last_byte p b = byte_at (get_or p (1024 + b) 0) 0
 
-unfoldable pub last_column : List ℕ → (ℕ → ℕ) → ℕ → List ℕ
-last_column p x key = four (λ r. xor (last_byte p (x r)) (byte_at key r))
+unfoldable pub last_column : List ℕ → List ℕ → List ℕ
+last_column p x = four (λ k. last_byte p (get_or x k 0))
 
--- Byte k of a column comes from the k-th column to the right, as in ShiftRows.
+-- A round but for its key.
 unfoldable pub table_round : List ℕ → List (List ℕ) → List (List ℕ)
-table_round p s = state (λ r c. entry_sum p (λ k. at s k ((c + k) % 4)) r)
+table_round p s = state (λ r c. entry_sum p (drawn s c) r)
 
 -- The last round, by its bytes.
 unfoldable pub last_round : List ℕ → List (List ℕ) → List (List ℕ)

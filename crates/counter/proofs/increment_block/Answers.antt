@@ -7,14 +7,7 @@ use Rattle.bits.proofs.Owned.{arrays}
 use Rattle.counter.proofs.Overflows.{start, stop}
 use Rattle.counter.proofs.increment_block.Goals as goal
 
-block_is : (s : goal.Then-last) → Block s.args.block
-block_is s = search arrays
-
-pub returns-then-last : goal.returns-then-last
-returns-then-last c =
-    let s = c in
-    let whole = block_is s in
-    stop 15 refl (start whole refl) (omega arith) (omega (arith, whole.bytes.byte 15))
-
-pub returns : goal.returns
-returns c = c.increment_bytes.ensures
+pub returns-then-out : goal.returns-then-out
+returns-then-out c =
+    let whole : Block c.args.block = search arrays in
+    stop 15 refl (start whole refl) (omega arith) (omega arith)

@@ -5,7 +5,4 @@ use Rattle.counter.proofs.Overflows.{Overflowing}
 use Rattle.counter.proofs.increment_bytes.Given as goal
 
 abbrev pub invariant-loop-i : goal.invariant-loop-i
-invariant-loop-i l = (l.end ≤ l.i) × (l.i ≤ 16) × Overflowing l.m l.initial.out l.out (l.m - 8 * (16 - l.i)) (16 - l.i)
-
-abbrev pub decreases-loop-i : goal.decreases-loop-i
-decreases-loop-i l = l.i
+invariant-loop-i l = (l.end ≤ l.i) × Overflowing l.m l.initial.out l.out (l.m - 8 * (16 - l.i)) (16 - l.i)

@@ -14,8 +14,7 @@ use Rattle.ending.proofs.restore.Goals as goal
 pub returns : goal.returns
 unfolding restored_bytes put_bits
 returns c =
-    let s = c in
-    let a = s.args in
+    let a = c.args in
     let h : Block a.end = search arrays in
     let size : 0 + length (take a.size (bits a.end)) ≡ a.size = simp (length-take, bits-block h) (omega arith) in
     c.put_bits.ensures ∙ ap (λ (k : ℕ). pack (take a.size (bits a.end)) ++ drop (bytes_for k) a.opened) size

@@ -1,15 +1,13 @@
--- The value is x^i after i turns. Assumes nothing.
-use mathlib.Core.Path.{refl, ap, ◌∙◌}
-use native.Mathlib.Numerals.{add-one}
-use native.Mathlib.Omega.{arith}
+-- After so many turns the value is that power of x. Assumes nothing.
+use Rattle.std.proofs.Common.{refl, ap, ◌∙◌, add-one}
 use Rattle.field.specs.Field.{double}
 use Rattle.expansion.specs.KeyExpansion.{power}
 use Rattle.expansion.proofs.power_of_x.Goals as goal
 
-pub loop-i-init : goal.loop-i-init
+pub loop-init : goal.loop-init
 unfolding power
-loop-i-init c = (omega arith, refl)
+loop-init c = refl
 
-pub loop-i-preserved : goal.loop-i-preserved
+pub loop-preserved : goal.loop-preserved
 unfolding power
-loop-i-preserved c = (omega arith, rw add-one (c.double-value.ensures ∙ ap double c.loop-i.invariant.1))
+loop-preserved c = rw add-one (c.double-value.ensures ∙ ap double c.loop.invariant)

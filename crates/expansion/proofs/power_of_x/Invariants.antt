@@ -1,11 +1,7 @@
--- The value is x^i after i turns. Assumes nothing.
-use mathlib.Core.Path.{◌≡◌}
-use Prim.Native.Nat.{◌-◌, ◌≤◌}
+-- After so many turns the value is that power of x. Assumes nothing.
+use Rattle.std.proofs.Common.{◌≡◌}
 use Rattle.expansion.specs.KeyExpansion.{power}
 use Rattle.expansion.proofs.power_of_x.Given as goal
 
-abbrev pub invariant-loop-i : goal.invariant-loop-i
-invariant-loop-i l = (l.i ≤ l.j) × (l.value ≡ power l.i)
-
-abbrev pub decreases-loop-i : goal.decreases-loop-i
-decreases-loop-i l = l.j - l.i
+abbrev pub invariant-loop : goal.invariant-loop
+invariant-loop l = l.value ≡ power l.counter

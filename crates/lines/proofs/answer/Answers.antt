@@ -4,17 +4,17 @@ use Rattle.lines.proofs.RequestLines.{bad-form, opening-prints, refused_opening,
 use Rattle.lines.proofs.answer.Goals as goal
 
 pub returns-in_default : goal.returns-in_default
-returns-in_default c = rw (bad-form c.parse.ensures c.in_default.is) c.refusal.ensures
+returns-in_default c = rw (bad-form _ c.in_default.ensures.form) (rw c.into.ensures at c.refusal.ensures)
 
 pub refusal-requires-then-opening-ne0 : goal.refusal-requires-then-opening-ne0
 refusal-requires-then-opening-ne0 c =
-    let prints = opening-prints c.parse.ensures c.in-Lines.is c.open_with-opened.ensures in
-    (omega arith, omega arith, omega arith)
+    let prints = opening-prints _ c.in-Some.field-0 c.in-Some.ensures.form c.open_with-opened.ensures in
+    (omega arith, omega arith)
 
 pub returns-then-opening-ne0 : goal.returns-then-opening-ne0
 returns-then-opening-ne0 c =
-    rw (refused_opening c.parse.ensures c.in-Lines.is c.open_with-opened.ensures (λ z. omega arith)) c.refusal-then-opening-ne0.ensures
+    rw (refused_opening _ c.in-Some.field-0 c.in-Some.ensures.form c.open_with-opened.ensures (λ z. omega arith)) c.refusal-then-opening-ne0.ensures
 
 pub returns : goal.returns
 returns c =
-    rw (accepted-opening c.parse.ensures c.in-Lines.is c.open_with-opened.ensures (omega arith)) c.feed_all.ensures
+    rw (accepted-opening _ c.in-Some.field-0 c.in-Some.ensures.form c.open_with-opened.ensures (omega arith)) c.feed_all.ensures

@@ -61,10 +61,14 @@ pub record Unmixed (end : ℕ) (others words : List ℕ) : Type 0 where
 unfoldable pub byte_word : ℕ → List ℕ
 byte_word b = b ∷ 0 ∷ 0 ∷ 0 ∷ []
 
--- Words that follow a rule from one index up to another, and are as they were before it.
-pub record Filled (start end : ℕ) (rule : ℕ → List ℕ) (before after : List ℕ) : Type 0 where
+-- Words from one index up to another, of each of which `made` holds. Those before are as they were.
+pub record Placed (start end : ℕ) (made : ℕ → ℕ → Type 0) (before after : List ℕ) : Type 0 where
   pub kept : (i : ℕ) → i < start → get_or after i 0 ≡ get_or before i 0
-  pub word : (i : ℕ) → start ≤ i → i < end → word_bytes (get_or after i 0) ≡ rule i
+  pub word : (i : ℕ) → start ≤ i → i < end → made i (get_or after i 0)
+
+-- Such words that follow a rule.
+abbrev pub Filled : ℕ → ℕ → (ℕ → List ℕ) → List ℕ → List ℕ → Type 0
+Filled start end rule = Placed start end (λ i word. word_bytes word ≡ rule i)
 
 -- ---- all of it
 

@@ -1,14 +1,20 @@
--- Dec under the expanded key. Assumes nothing.
+-- Dec under the expanded key, and what a refused key answers. Assumes nothing.
 use mathlib.Core.Path.{ap₂, ◌∙◌}
 use Rattle.cipher.specs.Cipher.{Dec}
 use Rattle.aes.specs.Calls.{decrypted}
+use Rattle.aes.proofs.CallLaws.{err_answer, dec-zeros}
 use Rattle.aes.proofs.calls.decrypt.Goals as goal
+
+pub returns-in_err-expand : goal.returns-in_err-expand
+returns-in_err-expand c =
+    let refused = c.in_err-expand.ensures in
+    err_answer c.from_residual.result c.from_residual.ensures.0 refused.answer (dec-zeros _ c.args.block refused.expanded_rounds)
 
 pub returns : goal.returns
 unfolding decrypted
 returns c =
-    let schedule = c.expand-schedule.ensures in
+    let schedule = c.in_ok-expand.ensures in
     record {
       answer = schedule.answer;
-      answer_block = c.decrypt_under.ensures ∙ ap₂ (λ n w. Dec n w c.args.block) schedule.expanded_rounds schedule.expanded_keys;
+      answer_block = c.decrypt.ensures ∙ ap₂ (λ n w. Dec n w c.args.block) schedule.expanded_rounds schedule.expanded_keys;
     }

@@ -3,7 +3,6 @@
 use mathlib.Core.Path.{◌≡◌, sym, ap₂, ◌∙◌}
 use Prim.Native.Nat.{ℕ, ◌-◌, ◌+◌, ◌*◌, ◌/◌, ◌%◌, ◌^◌}
 use native.Mathlib.Omega.{arith}
-use borrow.Author.Rules.{rules}
 use lib.ListN.{drop}
 use Rattle.bits.specs.Texts.{bits}
 use Rattle.bits.specs.Blocks.{Bytes}
@@ -17,7 +16,7 @@ bytes c = record { byte = λ i. (c.type_inv.s i).fits }
 pub loop-i-init : goal.loop-i-init
 loop-i-init c =
     let e : c.args.offset / 8 + 0 ≡ c.args.offset / 8 = omega arith in
-    (search rules, rw e c.byte_at-high.ensures, sym (pack_to_nil 16))
+    (rw e c.byte_at-high.ensures, sym (pack_to_nil 16))
 
 pub loop-i-preserved : goal.loop-i-preserved
 loop-i-preserved c =
@@ -26,11 +25,10 @@ loop-i-preserved c =
     let i = c.loop-i.i in
     let inv = c.loop-i.invariant in
     let next : offset / 8 + (i + 1) ≡ offset / 8 + i + 1 = omega arith in (
-      omega arith,
       rw next c.byte_at-low.ensures,
-      store_next 16 i (drop offset (bits s)) inv.2
+      store_next 16 i (drop offset (bits s)) inv.1
           (c.two_bytes.ensures
-          ∙ ap₂ (λ (a b : ℕ). (a * 256 + b) / 2 ^ (8 - offset % 8) % 256) inv.1 c.byte_at-low.ensures
+          ∙ ap₂ (λ (a b : ℕ). (a * 256 + b) / 2 ^ (8 - offset % 8) % 256) inv.0 c.byte_at-low.ensures
           ∙ sym (window_at s (bytes c) offset i))
           (omega arith),
     )
@@ -38,4 +36,4 @@ loop-i-preserved c =
 pub returns : goal.returns
 returns c =
     let e : c.loop-i.i ≡ c.args.count = omega arith in
-    rw e at c.loop-i.invariant.2
+    rw e at c.loop-i.invariant.1

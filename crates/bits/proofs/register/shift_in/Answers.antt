@@ -5,7 +5,6 @@ use mathlib.Core.List.{List}
 use Prim.Native.Nat.{ℕ}
 use native.Mathlib.Nat.{le_refl}
 use native.Mathlib.Omega.{arith}
-use borrow.Author.Rules.{rules}
 use lib.ListN.{drop}
 use Rattle.bits.specs.Texts.{bits, pack_to}
 use Rattle.bits.specs.Blocks.{Bytes, Block}
@@ -21,17 +20,15 @@ returns-then-n-ge128 c =
     shift_all start.register start.segment (search arrays) (search arrays) start.n c.if-n-ge128.true
 
 pub loop-i-init : goal.loop-i-init
-loop-i-init c = (search rules, sym (pack_to_nil 16))
+loop-i-init c = sym (pack_to_nil 16)
 
 pub loop-i-preserved : goal.loop-i-preserved
 loop-i-preserved c =
     let n = c.args.n in
     let both = c.join-both.result in
     let i = c.loop-i.i in
-    let bytes : Bytes both = search arrays in (
-      omega arith,
-      store_next 16 i (drop n (bits both)) c.loop-i.invariant.1 (c.two_bytes.ensures ∙ sym (window_at both bytes n i)) (omega arith),
-    )
+    let bytes : Bytes both = search arrays in
+    store_next 16 i (drop n (bits both)) c.loop-i.invariant (c.two_bytes.ensures ∙ sym (window_at both bytes n i)) (omega arith)
 
 pub returns : goal.returns
 returns c =
@@ -39,6 +36,6 @@ returns c =
     let both = c.join-both.result in
     let block : Block start.register = search arrays in
     let end : c.loop-i.i ≡ 16 = omega arith in
-    (rw end at c.loop-i.invariant.1) ∙ pack_to-cut 16 128 (drop start.n (bits both)) (le_refl 128)
+    (rw end at c.loop-i.invariant) ∙ pack_to-cut 16 128 (drop start.n (bits both)) (le_refl 128)
     ∙ ap (λ (l : List ℕ). pack_to 16 (drop start.n (bits l))) c.join-both.ensures
     ∙ shift_window start.register start.segment block start.n (omega arith)

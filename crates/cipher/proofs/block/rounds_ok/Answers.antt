@@ -1,13 +1,13 @@
--- The chain of tests. Assumes nothing.
+-- The tests of the number. Assumes nothing.
 use Rattle.std.proofs.Common.{arith}
 use Rattle.std.proofs.lemmas.Bool.Decides.{nat_tests}
 use Rattle.cipher.specs.Cipher.{rounds_ok}
 use Rattle.cipher.proofs.block.rounds_ok.Goals as goal
 
-pub returns-then-rounds-eq12 : goal.returns-then-rounds-eq12
+pub returns-in-10 : goal.returns-in-10
 unfolding rounds_ok
-returns-then-rounds-eq12 c = grind (arith, nat_tests)
+returns-in-10 c = grind (arith, nat_tests)
 
-pub returns-else-rounds-eq12 : goal.returns-else-rounds-eq12
+pub returns-in_default : goal.returns-in_default
 unfolding rounds_ok
-returns-else-rounds-eq12 c = grind (arith, nat_tests)
+returns-in_default c = grind (arith, nat_tests)

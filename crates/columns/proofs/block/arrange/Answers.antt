@@ -3,7 +3,7 @@ use Rattle.columns.proofs.ColumnLaws.{arranged_back, arranged-same}
 use Rattle.columns.proofs.block.arrange.Goals as goal
 
 pub returns-then-decrypting : goal.returns-then-decrypting
-returns-then-decrypting c = let s = c.args.s in arranged_back s.a s.b s.c s.d c.if-decrypting.true
+returns-then-decrypting c = arranged_back c.args.s c.if-decrypting.true
 
 pub returns-else-decrypting : goal.returns-else-decrypting
 returns-else-decrypting c = arranged-same _ c.if-decrypting.false

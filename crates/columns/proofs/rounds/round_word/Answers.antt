@@ -5,7 +5,4 @@ use Rattle.columns.proofs.rounds.round_word.Goals as goal
 
 pub returns : goal.returns
 unfolding xor
-returns c =
-    let start = c in
-    let a = start.args in
-    round-column a.prepared.now a.a a.b a.c a.d a.key start.ranges.d.fits
+returns c = round-column c.args.prepared.now c.args.x

@@ -1,14 +1,16 @@
--- `conguraha::counters::conguraha1_forecast` meets its contract: the mode's number is tested, then the forecast is
+-- `conguraha::counters::conguraha1_forecast` meets its contract: the mode's number is read, then the forecast is
 -- asked (`AnswerLaws`). Assumes nothing.
-use mathlib.Core.Path.{refl}
-use native.Mathlib.Omega.{arith}
+use mathlib.Core.Path.{refl, ◌∙◌}
 use Rattle.conguraha.proofs.AnswerLaws.{not-forecast, forecast-held}
 use Rattle.conguraha.proofs.counters.conguraha1_forecast.Goals as goal
 
-pub returns-then-mode-ge-MODES : goal.returns-then-mode-ge-MODES
-returns-then-mode-ge-MODES c = not-forecast _ _ _ (omega arith) refl refl refl
+pub returns-in_default : goal.returns-in_default
+returns-in_default c = not-forecast _ _ _ c.in_default.ensures refl refl refl
 
-pub returns : goal.returns
-returns c =
-    let f = c in
-    forecast-held _ _ _ {own = f.forecast-cost.result} (omega arith) f.mode_of.ensures f.forecast-cost.ensures refl refl refl
+pub returns-in-Ok-forecast : goal.returns-in-Ok-forecast
+returns-in-Ok-forecast c =
+    forecast-held _ _ _ c.in-Ok.ensures.0 c.in-Ok.ensures.1 c.in-Ok-forecast.ensures refl refl refl
+
+pub returns-in-Err : goal.returns-in-Err
+returns-in-Err c =
+    forecast-held _ _ _ c.in-Ok.ensures.0 c.in-Ok.ensures.1 c.in-Err.ensures (c.into.ensures ∙ c.from.ensures) refl refl

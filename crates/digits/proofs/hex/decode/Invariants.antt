@@ -1,14 +1,9 @@
 -- `digits::hex::decode` meets its contract. The loop's invariant: i bytes are written, and the rest of the output is as
 -- it was. Assumes nothing.
 use mathlib.Core.Path.{◌≡◌}
-use Prim.Native.Nat.{◌≤◌, ◌-◌}
-use lib.ListN.{length}
 use Rattle.bits.proofs.Fills.{filled}
 use Rattle.digits.specs.Texts.{hex_bytes}
 use Rattle.digits.proofs.hex.decode.Given as goal
 
 abbrev pub invariant-loop-i : goal.invariant-loop-i
-invariant-loop-i l = (l.i ≤ l.count) × (l.out ≡ filled l.initial.out (hex_bytes l.s) l.i) × (length l.out ≡ length l.initial.out)
-
-abbrev pub decreases-loop-i : goal.decreases-loop-i
-decreases-loop-i l = l.count - l.i
+invariant-loop-i l = l.out ≡ filled l.initial.out (hex_bytes l.s) l.i

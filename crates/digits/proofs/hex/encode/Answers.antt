@@ -4,36 +4,30 @@ use mathlib.Core.Path.{◌≡◌, sym, ◌∙◌}
 use Prim.Native.Nat.{◌+◌, ◌*◌}
 use native.Mathlib.Omega.{arith}
 use borrow.Author.Tests.{le-leb, lt-leb}
-use lib.ListN.{length, length-set}
+use lib.ListN.{length}
 use Rattle.digits.specs.Texts.{hex_text, encoded_into}
 use Rattle.digits.proofs.DigitLaws.{length-hex_text, high_digit, low_digit, pasted_pair}
 use Rattle.digits.proofs.hex.encode.Goals as goal
 
 pub returns-then-out-at : goal.returns-then-out-at
 unfolding encoded_into
-returns-then-out-at c = let a = c.args in
-    rw (lt-leb (a.at + length a.bytes.now * 2) (length a.out.now) (omega arith))
-
-pub returns-then-out-at-2 : goal.returns-then-out-at-2
-unfolding encoded_into
-returns-then-out-at-2 c = let a = c.args in
+returns-then-out-at c =
+    let a = c.args in
     rw (lt-leb (a.at + length a.bytes.now * 2) (length a.out.now) (omega arith))
 
 pub loop-i-preserved : goal.loop-i-preserved
-loop-i-preserved c = let at-loop = c in
-    let a = at-loop.args in
+loop-i-preserved c =
+    let a = c.args in
     let bytes = a.bytes.now in
-    let i = at-loop.loop-i.i in
+    let i = c.loop-i.i in
     let high = c.digit.ensures ∙ sym (high_digit bytes i (omega arith)) in
     let low = c.digit-in-loop-i.ensures ∙ sym (low_digit bytes i (omega arith)) in
-    let room = length-hex_text bytes in (
-      omega arith,
-      pasted_pair a.out.now a.at (hex_text bytes) i at-loop.loop-i.invariant.1 high low (omega arith) (omega arith),
-      simp length-set (omega arith),
-    )
+    let room = length-hex_text bytes in
+    pasted_pair a.out.now a.at (hex_text bytes) i c.loop-i.invariant high low (omega arith) (omega arith)
 
 pub returns : goal.returns
 unfolding encoded_into
-returns c = let a = c.args in
+returns c =
+    let a = c.args in
     let e : c.loop-i.i ≡ length a.bytes.now = omega arith in
-    rw (le-leb (a.at + length a.bytes.now * 2) (length a.out.now) (omega arith)) (rw e at c.loop-i.invariant.1)
+    rw (le-leb (a.at + length a.bytes.now * 2) (length a.out.now) (omega arith)) (rw e at c.loop-i.invariant)

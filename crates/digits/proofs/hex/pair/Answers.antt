@@ -6,9 +6,11 @@ use Rattle.digits.proofs.RangeLaws.{value_below}
 use Rattle.digits.proofs.hex.pair.Goals as goal
 
 pub overflow_mul-result : goal.overflow_mul-result
-overflow_mul-result c = let a = c.args in
-    omega (arith, c.value.ensures, value_below (get_or a.s.now a.i 0))
+overflow_mul-result c =
+    let a = c.args in
+    omega (arith, c.unwrap_or.ensures, c.value.ensures.value, value_below (get_or a.s.now a.i 0))
 
 pub overflow_add-result : goal.overflow_add-result
-overflow_add-result c = let a = c.args in
-    omega (arith, c.value.ensures, c.value-2.ensures, value_below (get_or a.s.now a.i 0), value_below (get_or a.s.now (a.i + 1) 0))
+overflow_add-result c =
+    let a = c.args in
+    omega (arith, value_below (get_or a.s.now a.i 0), value_below (get_or a.s.now (a.i + 1) 0))

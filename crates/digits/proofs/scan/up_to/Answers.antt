@@ -1,19 +1,20 @@
--- `digits::scan::up_to` meets its contract. The loop's invariant: the i bytes passed stand before the first `stop`.
--- Assumes nothing.
-use native.Mathlib.Omega.{arith}
-use Rattle.digits.proofs.ScanLaws.{upTo-here, upTo-on, upTo-end}
+-- `digits::scan::up_to` meets its contract: the closure tests for `stop`. Assumes nothing.
+use mathlib.Core.Path.{ap, ◌∙◌}
+use lib.Dec.{eqb}
+use lib.ListN.{length}
+use Prim.Native.Nat.{ℕ}
+use Rattle.std.proofs.Common.{rules, tests}
+use Rattle.std.specs.Option.{unwrap_or}
+use Rattle.std.proofs.lemmas.Iterator.{YieldsList-from_slice}
+use Rattle.std.proofs.lemmas.Iterator.Search.{position_from_yields_List}
+use Rattle.digits.proofs.ScanLaws.{upTo-position}
 use Rattle.digits.proofs.scan.up_to.Goals as goal
 
-pub returns-then-s-i : goal.returns-then-s-i
-returns-then-s-i c = let at-loop = c in
-    let a = at-loop.args in
-    omega (arith, at-loop.loop-i.invariant.1, upTo-here a.s.now at-loop.loop-i.i a.stop (omega arith) c.if-s-i.true)
-
-pub loop-i-preserved : goal.loop-i-preserved
-loop-i-preserved c = let at-loop = c in
-    let a = at-loop.args in
-    let on = upTo-on a.s.now at-loop.loop-i.i a.stop (omega arith) c.if-s-i.false in
-    (omega arith, omega (arith, at-loop.loop-i.invariant.1, on))
-
 pub returns : goal.returns
-returns c = omega (arith, c.loop-i.invariant.1, upTo-end c.args.s.now c.loop-i.i c.args.stop (omega arith))
+returns c =
+    let s = c.args.s.now in
+    let stop = c.args.stop in
+    c.unwrap_or.ensures
+    ∙ ap (λ r. unwrap_or r (length s))
+    (position_from_yields_List (λ (b : ℕ). eqb b stop) _ _ c.position.result c.position.ensures.ran (YieldsList-from_slice s cc) (λ x b q k. search (rules, tests)))
+    ∙ upTo-position stop s

@@ -1,28 +1,24 @@
--- `grammar::form::parse` meets its contract: the first line, and then what follows it. Assumes nothing.
+-- `grammar::form::parse` meets its contract: each line that was read has its size and its place. Assumes nothing.
 use mathlib.Core.Path.{sym}
-use Rattle.grammar.specs.Grammar.{request}
-use Rattle.digits.proofs.CutLaws.{cut-none, cut-some}
+use Rattle.grammar.specs.Grammar.{max_key_digits, max_data_digits}
+use Rattle.grammar.proofs.LineLaws.{cut_ended, digits_read, in_a_row}
 use Rattle.grammar.proofs.form.parse.Goals as goal
 
-pub returns-then-input-end : goal.returns-then-input-end
-unfolding request
-returns-then-input-end c = record { form = rw (cut-none 10 c.args.input.now _ c.up_to-end.ensures c.if-input-end.true); fits = tt; places = tt }
+pub returns-clause-fits : goal.returns-clause-fits
+returns-clause-fits c = record {
+  key = (digits_read max_key_digits _ (sym c.in_ok-key.ensures)).fits;
+  iv = (digits_read max_key_digits _ (sym c.in_ok-iv.ensures)).fits;
+  message = (digits_read max_data_digits _ (sym c.in_ok-data.ensures)).fits;
+}
 
-pub returns-in_default : goal.returns-in_default
-unfolding request
-returns-in_default c = let at = c in
-    let s = at.args.input.now in
-    let no = sym c.in_default.ensures in
-    record { form = rw (cut-some 10 s _ at.up_to-end.ensures at.if-input-end.false, no); fits = tt; places = tt }
-
-pub returns : goal.returns
-unfolding request
-returns c = let known = c in
-    let at = known in
-    let s = at.args.input.now in
-    let first = sym c.in-Line.ensures in
+pub returns-clause-places : goal.returns-clause-places
+returns-clause-places c =
+    let key = (digits_read max_key_digits _ (sym c.in_ok-key.ensures)).ended in
+    let iv = (digits_read max_key_digits _ (sym c.in_ok-iv.ensures)).ended in
+    let message = (digits_read max_data_digits _ (sym c.in_ok-data.ensures)).ended in
     record {
-      form = rw (cut-some 10 s _ at.up_to-end.ensures at.if-input-end.false, first) c.behind_first.ensures.form;
-      fits = c.behind_first.ensures.fits;
-      places = rw at.up_to-end.ensures at c.behind_first.ensures.places;
+      text = in_a_row (cut_ended _ (sym c.in_ok-line.ensures)) key iv message c.if-not-is_empty.ensures;
+      key = key.whole;
+      iv = iv.whole;
+      message = message.whole;
     }

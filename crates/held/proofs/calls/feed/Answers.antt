@@ -1,20 +1,18 @@
--- `held::calls::feed` meets its contract: the number is tested, then the session is fed (`CallLaws`). Assumes nothing.
-use mathlib.Core.Path.{refl}
-use native.Mathlib.Omega.{arith}
+-- `held::calls::feed` meets its contract: the struct is read, then the session is fed (`CallLaws`). Assumes nothing.
+use mathlib.Core.Path.{refl, ◌∙◌}
 use borrow.Author.Tests.{ne_eqb}
 use Rattle.held.proofs.CallLaws.{not-fed, fed}
+use Rattle.held.proofs.calls.feed.Goals.{then-fed-eq0, else-fed-eq0}
 use Rattle.held.proofs.calls.feed.Goals as goal
 
-pub returns-then-held-ge-MODES : goal.returns-then-held-ge-MODES
-returns-then-held-ge-MODES c = not-fed _ _ _ _ _ (omega arith) refl refl refl
-
-pub returns-then-number-ne0 : goal.returns-then-number-ne0
-returns-then-number-ne0 c =
-    let f = c in
-    fed _ _ _ _ _ {f = f.feed-fed.result} (omega arith) f.session_of-session.ensures f.feed-fed.ensures refl (rw (ne_eqb f.feed-fed.result.number 0 (λ zero. omega (arith, zero))) refl) refl
+pub returns-in_default : goal.returns-in_default
+returns-in_default c = not-fed _ _ _ _ _ c.in_default.ensures refl refl refl
 
 pub returns : goal.returns
 returns c =
-    let e = c in
-    let f = e in
-    fed _ _ _ _ _ {f = f.feed-fed.result} (omega arith) f.session_of-session.ensures f.feed-fed.ensures refl (rw e.if-number-ne0.false c.moved.ensures) refl
+    fed _ _ _ _ _ {f = c.feed-fed.result} c.in-Ok.ensures.0 c.in-Ok.ensures.1 c.feed-fed.ensures c.into.ensures
+    (elim c.if-fed-eq0.branch [
+      | then-fed-eq0 w ↦ rw w.if-fed-eq0.true (w.next-is ∙ w.moved-next.ensures)
+      | else-fed-eq0 w ↦ rw (ne_eqb c.feed-fed.result.number 0 w.if-fed-eq0.false) w.next-is
+    ])
+    refl

@@ -5,4 +5,4 @@ use Rattle.lines.proofs.print.success.Goals as goal
 
 pub returns : goal.returns
 returns c = let a = c.args in
-    zero_number a.bytes.now a.out.now (omega arith) c.encode.ensures
+    zero_number a.bytes.now a.out.now (omega arith) (rw c.copy_from_slice.ensures.after at c.encode.ensures)

@@ -15,17 +15,17 @@ overflow_mul-at c = let p = c.requires in omega (arith, unit-inside p.0 p.1, p.0
 pub overflow_sub-bits : goal.overflow_sub-bits
 overflow_sub-bits c = let p = c.requires in omega (arith, unit-inside p.0 p.1)
 
-pub slice_bounds-part-count : goal.slice_bounds-part-count
-slice_bounds-part-count c = let p = c.requires in omega (arith, unit-inside p.0 p.1, p.0.within)
+pub slice_bounds-turn-count : goal.slice_bounds-turn-count
+slice_bounds-turn-count c = let p = c.requires in omega (arith, unit-inside p.0 p.1, p.0.within)
 
-pub slice_bounds-part-start : goal.slice_bounds-part-start
-slice_bounds-part-start c = let p = c.requires in omega (arith, unit-inside p.0 p.1, p.0.within)
+pub slice_bounds-turn-start : goal.slice_bounds-turn-start
+slice_bounds-turn-start c = let p = c.requires in omega (arith, unit-inside p.0 p.1, p.0.within)
 
-pub turn-step-requires : goal.turn-step-requires
-turn-step-requires c = let p = c.requires in ap (unit_size_ok _) c.smaller-size.ensures ∙ unit-size-ok p.0 p.1
+pub turn-runs-requires : goal.turn-runs-requires
+turn-runs-requires c = let p = c.requires in ap (unit_size_ok _) c.min-size.ensures ∙ unit-size-ok p.0 p.1
 
 pub put_bits-requires : goal.put_bits-requires
-put_bits-requires c = let s = c in let p = s.requires in omega (arith, unit-fits p.0 p.1, s.smaller-size.ensures)
+put_bits-requires c = let s = c in let p = s.requires in omega (arith, unit-fits p.0 p.1, s.min-size.ensures)
 
 pub returns : goal.returns
 returns c =
@@ -33,7 +33,7 @@ returns c =
     let small = turned in
     let s = small in
     let a = s.args in
-    let at = a.t * a.session.n in
-    unit-worked s.requires.0 s.requires.1 small.smaller-size.ensures
-    (ap (λ l. pack_to 16 (take small.smaller-size.result (drop (at % 8) (bits l)))) (part_all (at / 8) a.input.now)) turned.turn-step.ensures
+    let at = a.t * a.n in
+    unit-worked s.requires.0 s.requires.1 small.min-size.ensures
+    (ap (λ l. pack_to 16 (take small.min-size.result (drop (at % 8) (bits l)))) (part_all (at / 8) a.input.now)) turned.turn-runs.ensures
     c.put_bits.ensures

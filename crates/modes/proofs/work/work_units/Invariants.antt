@@ -1,10 +1,6 @@
--- The invariant: t units are through (`WorkLaws`). The measure is the units left. Assumes nothing.
-use Prim.Native.Nat.{◌-◌, ◌≤◌}
+-- The invariant: t units are through (`WorkLaws`). Assumes nothing.
 use Rattle.modes.proofs.WorkLaws.{Through}
 use Rattle.modes.proofs.work.work_units.Given as goal
 
 abbrev pub invariant-loop-t : goal.invariant-loop-t
-invariant-loop-t l = Through l.session.mode l.session.direction l.session.n l.session.m l.session.rounds l.session.keys l.session.register l.input l.bits l.initial.out l.t l.done l.out × (l.t ≤ l.units)
-
-abbrev pub decreases-loop-t : goal.decreases-loop-t
-decreases-loop-t l = l.units - l.t
+invariant-loop-t l = Through l.session.mode l.session.direction l.session.n l.session.m l.session.rounds l.session.keys l.session.register l.input l.bits l.initial.out l.t l.done l.out

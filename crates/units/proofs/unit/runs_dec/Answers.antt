@@ -1,24 +1,24 @@
 -- By the mode. Assumes nothing.
-use mathlib.Core.Path.{refl}
+use mathlib.Core.Path.{◌≡◌, refl}
+use mathlib.Core.Bool.{false}
+use mathlib.Core.Logic.{◌⊎◌, inl, inr}
+use Rattle.rules.specs.declared.Mode.TheVariants.{Ecb, Cbc, Cfb, Ofb, Ctr}
 use Rattle.units.specs.Inner.Turns.{runs_dec}
 use Rattle.units.proofs.unit.runs_dec.Goals as goal
 
 pub returns-in-Ecb : goal.returns-in-Ecb
 unfolding runs_dec
-returns-in-Ecb c = rw c.in-Ecb.is c.decrypts.ensures
-
-pub returns-in-Cbc : goal.returns-in-Cbc
-unfolding runs_dec
-returns-in-Cbc c = rw c.in-Cbc.is c.decrypts-in-Cbc.ensures
+returns-in-Ecb c = go c.in-Ecb.is
+  where
+    go : (c.args.mode ≡ Ecb) ⊎ (c.args.mode ≡ Cbc) → c.decrypts.result ≡ runs_dec c.args.mode c.args.direction
+    go (inl e) = rw e c.decrypts.ensures
+    go (inr e) = rw e c.decrypts.ensures
 
 pub returns-in-Cfb : goal.returns-in-Cfb
 unfolding runs_dec
-returns-in-Cfb c = rw c.in-Cfb.is refl
-
-pub returns-in-Ofb : goal.returns-in-Ofb
-unfolding runs_dec
-returns-in-Ofb c = rw c.in-Ofb.is refl
-
-pub returns-in-Ctr : goal.returns-in-Ctr
-unfolding runs_dec
-returns-in-Ctr c = rw c.in-Ctr.is refl
+returns-in-Cfb c = go c.in-Cfb.is
+  where
+    go : (c.args.mode ≡ Cfb) ⊎ ((c.args.mode ≡ Ofb) ⊎ (c.args.mode ≡ Ctr)) → false ≡ runs_dec c.args.mode c.args.direction
+    go (inl e) = rw e refl
+    go (inr (inl e)) = rw e refl
+    go (inr (inr e)) = rw e refl
