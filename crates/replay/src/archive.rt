@@ -1,15 +1,19 @@
 // One block of a CBC archive.
 use crate::output::Output;
 use crate::state::State;
-use script::{Hex, MAX_BYTES, Words};
+use script::{Hex, MAX_BYTES, Space, Words};
 use std::io;
 use std::io::Write;
 
 impl State {
     // neighbour IV TEXT J
-    pub fn neighbour(&mut self, mut words: Words<'_>) -> Option<io::Result<()>> {
-        let iv = words.bytes()?;
-        let text = words.text()?;
+    pub fn neighbour(
+        &mut self,
+        mut words: Words<'_>,
+        space: &mut Space<'_>,
+    ) -> Option<io::Result<()>> {
+        let iv = words.bytes(space)?;
+        let text = words.text(space)?;
         let j = words.number()?;
         words.end()?;
         let part = inspect::neighbour(iv, text, j);
@@ -20,11 +24,12 @@ impl State {
     pub fn block(
         &mut self,
         mut words: Words<'_>,
+        space: &mut Space<'_>,
         room: &mut [u8; MAX_BYTES],
     ) -> Option<io::Result<()>> {
-        let key = words.bytes()?;
-        let iv = words.bytes()?;
-        let text = words.text()?;
+        let key = words.bytes(space)?;
+        let iv = words.bytes(space)?;
+        let text = words.text(space)?;
         let j = words.number()?;
         let output = Output::read(&mut words)?;
         words.end()?;

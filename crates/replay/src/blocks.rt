@@ -1,14 +1,18 @@
 // The calls of `aes`: round keys, and one block under a key.
 use crate::state::State;
 use aes::KeyLength;
-use script::{Hex, Words};
+use script::{Hex, Space, Words};
 use std::io;
 use std::io::Write;
 
 impl State {
     // expand KEY
-    pub fn expand(&mut self, mut words: Words<'_>) -> Option<io::Result<()>> {
-        let key = words.bytes()?;
+    pub fn expand(
+        &mut self,
+        mut words: Words<'_>,
+        space: &mut Space<'_>,
+    ) -> Option<io::Result<()>> {
+        let key = words.bytes(space)?;
         words.end()?;
         Some(match aes::expand(key) {
             Ok(schedule) => writeln!(
@@ -22,16 +26,24 @@ impl State {
     }
 
     // encrypt KEY BLOCK
-    pub fn encrypt(&mut self, mut words: Words<'_>) -> Option<io::Result<()>> {
-        let key = words.bytes()?;
+    pub fn encrypt(
+        &mut self,
+        mut words: Words<'_>,
+        space: &mut Space<'_>,
+    ) -> Option<io::Result<()>> {
+        let key = words.bytes(space)?;
         let block = words.block()?;
         words.end()?;
         Some(self.answer_block(aes::encrypt(key, block)))
     }
 
     // decrypt KEY BLOCK. One function for both would be given the call, for two lines in each.
-    pub fn decrypt(&mut self, mut words: Words<'_>) -> Option<io::Result<()>> {
-        let key = words.bytes()?;
+    pub fn decrypt(
+        &mut self,
+        mut words: Words<'_>,
+        space: &mut Space<'_>,
+    ) -> Option<io::Result<()>> {
+        let key = words.bytes(space)?;
         let block = words.block()?;
         words.end()?;
         Some(self.answer_block(aes::decrypt(key, block)))

@@ -4,7 +4,7 @@ use crate::output::Output;
 use crate::sessions::Progress;
 use crate::state::State;
 use forecast::Cost;
-use script::{Hex, MAX_BYTES, Words};
+use script::{Hex, MAX_BYTES, Space, Words};
 use std::io;
 use std::io::Write;
 
@@ -13,11 +13,12 @@ impl State {
     pub fn feed(
         &mut self,
         mut words: Words<'_>,
+        space: &mut Space<'_>,
         room: &mut [u8; MAX_BYTES],
     ) -> Option<io::Result<()>> {
         let bits = words.number()?;
         let output = Output::read(&mut words)?;
-        let input = words.text()?;
+        let input = words.text(space)?;
         words.end()?;
         let out = output.lent(room);
         let fed = self.session.feed(input, bits, out, output.place);

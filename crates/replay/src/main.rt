@@ -50,13 +50,14 @@ use std::io::Read;
 
 // Runs each line that ends in this part of the input, gathers what follows the last, and writes the answers.
 fn run_part(part: &[u8], room: &mut Room, state: &mut State) -> io::Result<()> {
-    for b in part {
-        if *b == b'\n' {
-            state.end_line(room)?;
-            room.line.clear();
-        } else if !room.line.is_full() {
-            // A line that is too long stays full.
-            room.line.push(*b);
+    for piece in part.split_inclusive(|b| *b == b'\n') {
+        match piece.split_last() {
+            Some((b'\n', end)) => {
+                room.gather(end)?;
+                state.end_line(room)?;
+                room.line.clear();
+            }
+            _ => room.gather(piece)?,
         }
     }
     state.flush()

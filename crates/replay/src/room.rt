@@ -1,6 +1,8 @@
 // The memory that the lines share.
 use arrayvec::ArrayVec;
 use script::{MAX_BYTES, MAX_LINE};
+use std::io;
+use std::io::Write;
 
 // A byte more than the longest line.
 const LINE: usize = MAX_LINE + 1;
@@ -20,5 +22,11 @@ impl Room {
             space: [0; MAX_LINE / 2],
             out: [0; MAX_BYTES],
         }
+    }
+
+    // Adds to the line. One that is too long stays full.
+    pub fn gather(&mut self, piece: &[u8]) -> io::Result<()> {
+        self.line.write(piece)?;
+        Ok(())
     }
 }

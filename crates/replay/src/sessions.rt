@@ -2,7 +2,7 @@
 use crate::state::State;
 use carry::Session32;
 use modes::{Opened, Session};
-use script::{Hex, Words};
+use script::{Hex, Space, Words};
 use std::io::Write;
 use std::{fmt, io};
 
@@ -39,7 +39,7 @@ impl fmt::Display for Progress<'_> {
 }
 
 // MODE N M E|D ROUNDS R UNITS CLOSED KEYS
-fn by_hand(words: &mut Words<'_>) -> Option<Session> {
+fn by_hand(words: &mut Words<'_>, space: &mut Space<'_>) -> Option<Session> {
     let mode = words.mode()?;
     let n = words.number()?;
     let m = words.number()?;
@@ -52,7 +52,7 @@ fn by_hand(words: &mut Words<'_>) -> Option<Session> {
         1 => true,
         _ => return None,
     };
-    let first_keys = words.bytes()?;
+    let first_keys = words.bytes(space)?;
     let mut keys = [0u8; 240];
     keys.get_mut(..first_keys.len())?
         .copy_from_slice(first_keys);
@@ -92,31 +92,35 @@ impl State {
     }
 
     // open MODE N E|D KEY IV
-    pub fn open(&mut self, mut words: Words<'_>) -> Option<io::Result<()>> {
+    pub fn open(&mut self, mut words: Words<'_>, space: &mut Space<'_>) -> Option<io::Result<()>> {
         let mode = words.mode()?;
         let n = words.number()?;
         let direction = words.direction()?;
-        let key = words.bytes()?;
-        let iv = words.bytes()?;
+        let key = words.bytes(space)?;
+        let iv = words.bytes(space)?;
         words.end()?;
         self.opened(Session::open(mode, direction, n, key, iv))
     }
 
     // open-counter MODE N M E|D KEY IV
-    pub fn open_counter(&mut self, mut words: Words<'_>) -> Option<io::Result<()>> {
+    pub fn open_counter(
+        &mut self,
+        mut words: Words<'_>,
+        space: &mut Space<'_>,
+    ) -> Option<io::Result<()>> {
         let mode = words.mode()?;
         let n = words.number()?;
         let m = words.number()?;
         let direction = words.direction()?;
-        let key = words.bytes()?;
-        let iv = words.bytes()?;
+        let key = words.bytes(space)?;
+        let iv = words.bytes(space)?;
         words.end()?;
         self.opened(Session::open_counter(mode, direction, n, m, key, iv))
     }
 
     // session MODE N M E|D ROUNDS R UNITS CLOSED KEYS
-    pub fn set(&mut self, mut words: Words<'_>) -> Option<io::Result<()>> {
-        let session = by_hand(&mut words)?;
+    pub fn set(&mut self, mut words: Words<'_>, space: &mut Space<'_>) -> Option<io::Result<()>> {
+        let session = by_hand(&mut words, space)?;
         words.end()?;
         self.session = session;
         Some(writeln!(self.answers, "set"))

@@ -2,7 +2,7 @@
 use crate::room::Room;
 use modes::Session;
 use rules::{Direction, Mode};
-use script::{Answers, MAX_LINE, Words};
+use script::{Answers, MAX_LINE, Space, Words};
 use std::io;
 use std::io::{Stderr, Stdout, Write};
 
@@ -37,8 +37,8 @@ impl State {
             [] | [b'#', ..] => Ok(()),
             line if line.len() > MAX_LINE => self.bad(),
             line => {
-                let words = Words::new(line, &mut room.space);
-                match self.run(words, &mut room.out) {
+                let mut space = Space(&mut room.space);
+                match self.run(Words::new(line), &mut space, &mut room.out) {
                     Some(answered) => answered,
                     None => self.bad(),
                 }

@@ -2,7 +2,7 @@
 use crate::answered::answered;
 use crate::output::Output;
 use crate::state::State;
-use script::{Hex, MAX_BYTES, Words};
+use script::{Hex, MAX_BYTES, Space, Words};
 use std::io;
 use std::io::Write;
 
@@ -11,11 +11,12 @@ impl State {
     pub fn pad(
         &mut self,
         mut words: Words<'_>,
+        space: &mut Space<'_>,
         room: &mut [u8; MAX_BYTES],
     ) -> Option<io::Result<()>> {
         let bits = words.number()?;
         let output = Output::read(&mut words)?;
-        let input = words.text()?;
+        let input = words.text(space)?;
         words.end()?;
         let out = output.lent(room);
         let (number, length) = answered(padding::pad(input, bits, out, output.place), 0);
@@ -23,9 +24,9 @@ impl State {
     }
 
     // unpad BITS INPUT
-    pub fn unpad(&mut self, mut words: Words<'_>) -> Option<io::Result<()>> {
+    pub fn unpad(&mut self, mut words: Words<'_>, space: &mut Space<'_>) -> Option<io::Result<()>> {
         let bits = words.number()?;
-        let input = words.text()?;
+        let input = words.text(space)?;
         words.end()?;
         let (number, length) = answered(padding::unpad(input, bits), 0);
         Some(writeln!(self.answers, "{number} {length}"))
@@ -35,14 +36,15 @@ impl State {
     pub fn steal(
         &mut self,
         mut words: Words<'_>,
+        space: &mut Space<'_>,
         room: &mut [u8; MAX_BYTES],
     ) -> Option<io::Result<()>> {
         let direction = words.direction()?;
-        let key = words.bytes()?;
-        let iv = words.bytes()?;
+        let key = words.bytes(space)?;
+        let iv = words.bytes(space)?;
         let bits = words.number()?;
         let output = Output::read(&mut words)?;
-        let input = words.text()?;
+        let input = words.text(space)?;
         words.end()?;
         let out = output.lent(room);
         let answer = stealing::process(direction, key, iv, input, bits, out, output.place);

@@ -8,4 +8,4 @@ mod words;
 
 pub use answers::Answers;
 pub use hex::Hex;
-pub use words::{MAX_BYTES, MAX_LINE, Words};
+pub use words::{MAX_BYTES, MAX_LINE, Space, Words};

@@ -11,20 +11,19 @@ pub const MAX_BYTES: usize = 65600;
 pub const MAX_LINE: usize = 2 * MAX_BYTES + 1920;
 
 // The words from the next one on; none where the line has ended. Each function below but the last takes the next word,
-// and answers none where there is none or it is of another kind. The bytes that words spell are put into `space`, of
-// which half of the longest line holds those of any line.
-#[derive(Drop)]
+// and answers none where there is none or it is of another kind.
+#[derive(Clone, Copy)]
 pub struct Words<'a> {
     rest: Option<&'a [u8]>,
-    space: &'a mut [u8],
 }
 
+// Where the bytes that words spell are put: half of the longest line holds those of any line.
+#[derive(Drop)]
+pub struct Space<'a>(pub &'a mut [u8]);
+
 impl<'a> Words<'a> {
-    pub fn new(line: &'a [u8], space: &'a mut [u8]) -> Words<'a> {
-        Words {
-            rest: Some(line),
-            space,
-        }
+    pub fn new(line: &'a [u8]) -> Words<'a> {
+        Words { rest: Some(line) }
     }
 
     pub fn word(&mut self) -> Option<&'a [u8]> {
@@ -70,8 +69,8 @@ impl<'a> Words<'a> {
         self.number().filter(|size| *size <= MAX_BYTES)
     }
 
-    // Two digits to a byte, or `-` for none.
-    pub fn bytes(&mut self) -> Option<&'a [u8]> {
+    // The digits of bytes, two to a byte, or `-` for none.
+    fn digits(&mut self) -> Option<&'a [u8]> {
         let word = self.word()?;
         if word == b"-".as_slice() {
             return Some(&[]);
@@ -79,28 +78,41 @@ impl<'a> Words<'a> {
         if word.is_empty() || word.len() % 2 != 0 || !digits::all_digits(word) {
             return None;
         }
-        let bytes = self.space.split_off_mut(..word.len() / 2)?;
-        digits::decode(word, bytes);
+        Some(word)
+    }
+
+    pub fn bytes<'s>(&mut self, space: &mut Space<'s>) -> Option<&'s [u8]> {
+        let digits = self.digits()?;
+        let bytes = space.0.split_off_mut(..digits.len() / 2)?;
+        digits::decode(digits, bytes);
         Some(bytes)
     }
 
     // Bytes, at most `MAX_BYTES`.
-    pub fn text(&mut self) -> Option<&'a [u8]>
+    pub fn text<'s>(&mut self, space: &mut Space<'s>) -> Option<&'s [u8]>
         ensures { IfSome result (λ text. length text.now ≤ MAX_BYTES) }
     {
-        self.bytes().filter(|text| text.len() <= MAX_BYTES)
+        self.bytes(space).filter(|text| text.len() <= MAX_BYTES)
     }
 
     pub fn byte(&mut self) -> Option<u8> {
-        match self.bytes()? {
-            [byte] => Some(*byte),
-            _ => None,
-        }
+        Some(self.array::<1>()?[0])
     }
 
     // 16 bytes.
     pub fn block(&mut self) -> Option<[u8; 16]> {
-        self.bytes()?.as_array().copied()
+        self.array()
+    }
+
+    // N bytes.
+    fn array<const N: usize>(&mut self) -> Option<[u8; N]> {
+        let digits = self.digits()?;
+        if digits.len() / 2 != N {
+            return None;
+        }
+        let mut bytes = [0; N];
+        digits::decode(digits, &mut bytes);
+        Some(bytes)
     }
 
     // Has the line no further word?

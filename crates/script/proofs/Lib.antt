@@ -1,0 +1,2 @@
+-- Laws about the definitions of specs/, a file to a subject.
+pub mod HexLaws
