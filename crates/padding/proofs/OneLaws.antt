@@ -1,14 +1,17 @@
 -- The search for the last 1: in any text, in a block bit by bit, and in the last block as it is read. Assumes nothing.
 use Prim.Native.Nat.{ℕ, zero, suc, pred, ◌+◌, ◌-◌, ◌*◌, ◌/◌, ◌%◌, ◌^◌, ◌≤◌, ◌<◌}
-use mathlib.Core.Path.{◌≡◌, refl, ap, ◌∙◌}
+use mathlib.Core.Path.{◌≡◌, refl, sym, ap, ◌∙◌}
 use mathlib.Core.Bool.{Bool, true, false, cond}
 use mathlib.Core.List.{List}
-use native.Mathlib.Nat.{le_refl}
+use native.Mathlib.Nat.{le_refl, zero-div}
 use native.Mathlib.Omega.{arith}
 use lib.ListN.{length, get_or, take, drop, length-drop}
 use lib.Seq.{length-take-le, take-add, drop_at}
 use lib.Dec.{ltb}
 use borrow.Author.Tests.{ltb-true, ltb-false, eq-eqb, ne_eqb}
+use mir.Syntax.{w8}
+use Rattle.std.specs.Int.{trailing_zeros}
+use Rattle.std.proofs.lemmas.Nat.Bits.{bit_at-trailing_zeros}
 use Rattle.bits.specs.Texts.{bit, bits, pack_to}
 use Rattle.bits.proofs.Texts.{length-bits, bits-pack_to}
 use Rattle.bits.proofs.Windows.{bit_at}
@@ -59,17 +62,52 @@ one_found_at x (suc k) u e = go (get_or x k false) refl e (one_found_at x k u)
 -- ---- a block, bit by bit from its end
 
 module _ (b : List ℕ) (k : ℕ) where
-  pub bit-passed : (get_or b (k / 8) 0 / 2 ^ (7 - k % 8) % 2 ≡ 1 → ⊥) → up_to_last_one (bits b) (suc k) ≡ up_to_last_one (bits b) k
+  bit-passed : (get_or b (k / 8) 0 / 2 ^ (7 - k % 8) % 2 ≡ 1 → ⊥) → up_to_last_one (bits b) (suc k) ≡ up_to_last_one (bits b) k
   unfolding bit
   bit-passed zero_bit = passed (bits b) k (bit_at b k ∙ ne_eqb (get_or b (k / 8) 0 / 2 ^ (7 - k % 8) % 2) 1 zero_bit)
 
-  pub bit_found : get_or b (k / 8) 0 / 2 ^ (7 - k % 8) % 2 ≡ 1 → up_to_last_one (bits b) (suc k) ≡ suc k
+  bit_found : get_or b (k / 8) 0 / 2 ^ (7 - k % 8) % 2 ≡ 1 → up_to_last_one (bits b) (suc k) ≡ suc k
   unfolding bit
   bit_found one_bit = found (bits b) k (bit_at b k ∙ eq-eqb (get_or b (k / 8) 0 / 2 ^ (7 - k % 8) % 2) 1 one_bit)
 
--- no bit stands before the first one
-pub before_first : (x : List Bool) → pred (up_to_last_one x 1) ≡ 0
-before_first x = omega (arith, at_most x 1)
+-- ---- and byte by byte
+
+module _ (b : List ℕ) (k : ℕ) where
+  -- bit i of byte k, counted from the lowest
+  same-bit : (i : ℕ) → i < 8 → get_or b ((k * 8 + (7 - i)) / 8) 0 / 2 ^ (7 - (k * 8 + (7 - i)) % 8) % 2 ≡ get_or b k 0 / 2 ^ i % 2
+  same-bit i h =
+      let e : (k * 8 + (7 - i)) / 8 ≡ k = omega arith in
+      let f : 7 - (k * 8 + (7 - i)) % 8 ≡ i = omega arith in
+      rw (e, f)
+
+  zeros-passed : (i : ℕ) → i ≤ 8 → ((j : ℕ) → j < i → get_or b k 0 / 2 ^ j % 2 ≡ 0) → up_to_last_one (bits b) (k * 8 + 8) ≡ up_to_last_one (bits b) (k * 8 + (8 - i))
+  zeros-passed zero h zeros = refl
+  zeros-passed (suc i) h zeros =
+      let e : k * 8 + (8 - i) ≡ suc (k * 8 + (7 - i)) = omega arith in
+      let f : k * 8 + (7 - i) ≡ k * 8 + (8 - suc i) = omega arith in
+      zeros-passed i (omega arith) (λ j l. zeros j (omega arith))
+      ∙ ap (up_to_last_one (bits b)) e
+      ∙ bit-passed b (k * 8 + (7 - i)) (λ one. omega (arith, same-bit i (omega arith), one, zeros i (omega arith)))
+      ∙ ap (up_to_last_one (bits b)) f
+
+  pub byte-passed : get_or b k 0 ≡ 0 → up_to_last_one (bits b) (k * 8 + 8) ≡ up_to_last_one (bits b) (k * 8)
+  byte-passed none =
+      let e : k * 8 + (8 - 8) ≡ k * 8 = omega arith in
+      zeros-passed 8 (omega arith) (λ j l. rw (none, zero-div)) ∙ ap (up_to_last_one (bits b)) e
+
+  pub one_in_byte : (get_or b k 0 ≡ 0 → ⊥) → get_or b k 0 < 256
+      → let t = trailing_zeros w8 (get_or b k 0) in
+      (t < 8) × (up_to_last_one (bits b) (k * 8 + 8) ≡ k * 8 + (8 - t))
+  one_in_byte some byte =
+      let t = trailing_zeros w8 (get_or b k 0) in
+      let (small, one, zeros) = bit_at-trailing_zeros w8 (get_or b k 0) (omega arith) byte in
+      let e : k * 8 + (8 - t) ≡ suc (k * 8 + (7 - t)) = omega arith in (
+        small,
+        zeros-passed t (omega arith) zeros
+            ∙ ap (up_to_last_one (bits b)) e
+            ∙ bit_found b (k * 8 + (7 - t)) (same-bit t small ∙ one)
+            ∙ sym e,
+      )
 
 -- ---- the last block
 

@@ -1,14 +1,18 @@
 -- A padded text: its length, the bytes that hold it, and what writing it leaves. Assumes nothing.
-use Prim.Native.Nat.{ℕ, zero, suc, ◌+◌, ◌-◌, ◌*◌, ◌%◌, ◌≤◌, ◌<◌}
-use mathlib.Core.Path.{◌≡◌, refl, ap}
+use Prim.Native.Nat.{ℕ, zero, suc, ◌+◌, ◌-◌, ◌*◌, ◌/◌, ◌%◌, ◌^◌, ◌≤◌, ◌<◌}
+use mathlib.Core.Path.{◌≡◌, refl, sym, ap, ap₂, ◌∙◌}
 use mathlib.Core.Bool.{Bool, true, false}
-use mathlib.Core.List.{List, ◌∷◌, ◌++◌}
-use native.Mathlib.Nat.{le_of_suc-le-suc}
+use mathlib.Core.List.{List, ◌∷◌, ◌++◌, append_assoc}
 use native.Mathlib.Omega.{arith}
-use lib.ListN.{length, take, drop, set, replicate, length-append, length-take, length-drop, length-replicate}
-use lib.Seq.{length-take-le, take-take, take-append-le}
-use Rattle.bits.specs.Texts.{bit, byte_bits, bits, bytes_for, pack, put_bits}
-use Rattle.bits.proofs.Texts.{length-bits, bits-append, take-bits, length-pack, drop_front}
+use lib.Bits.{bit_or}
+use lib.Dec.{eqb, eqb→eq}
+use lib.ListN.{length, get_or, take, drop, set, replicate, length-append, length-take, length-drop, length-replicate}
+use lib.Seq.{length-take-le, take-take, take-append-le, take-add, drop-append-add, drop-append-le, drop-cons, paste, set_split}
+use Rattle.std.proofs.lemmas.List.{replicate-append-replicate, drop-replicate}
+use Rattle.bits.specs.Texts.{bit, byte_bits, bits, digit, byte_of, bytes_for, pack_to, pack}
+use Rattle.bits.specs.Blocks.{Bytes}
+use Rattle.bits.proofs.Tables.{every_below, below}
+use Rattle.bits.proofs.Texts.{length-bits, length-byte_bits, bits-append, take-bits, drop_bits, length-pack, pack-append, pack-bits, bytes_for_whole, drop_front, take_bytes}
 use Rattle.questions.specs.Questions.{max_bits}
 use Rattle.modes.specs.Sessions.{fed_text, written}
 use Rattle.modes.proofs.WrittenLaws.{written-text, written-size}
@@ -37,25 +41,80 @@ padded_bytes s count h = rw (length-pack, length-padded, length_fed s count h)
 
 -- ---- a 1 bit and 0 bits after a text
 
-take-replicate : (n k : ℕ) → n ≤ k → take n (replicate k false) ≡ replicate n false
-take-replicate zero k h = refl
-take-replicate (suc n) zero h = absurd (omega arith)
-take-replicate (suc n) (suc k) h = ap (λ (l : List Bool). false ∷ l) (take-replicate n k (le_of_suc-le-suc h))
+-- a byte's first r bits, then a 1 bit, then 0 bits
+abbrev pub marked : ℕ → ℕ → List Bool
+marked b r = take r (byte_bits b) ++ true ∷ replicate (7 - r) false
 
--- the first bits of 80 and fifteen 00
-ones_first : (n : ℕ) → n < 128 → take (suc n) (bits (set (replicate 16 0) 0 128)) ≡ true ∷ replicate n false
-unfolding bits byte_bits bit
-ones_first n h = ap (λ (l : List Bool). true ∷ l) (take-replicate n 127 (le_of_suc-le-suc h))
+-- as shifts make it
+pub marked_byte : (b r : ℕ) → b < 256 → r < 8 → bit_or (b / 2 ^ (7 - r)) 1 * 2 ^ (7 - r) % 256 ≡ byte_of (marked b r)
+unfolding byte_of byte_bits bit digit
+marked_byte b r hb hr =
+    let f : ℕ → ℕ → Bool = λ q n. eqb (bit_or (n / 2 ^ (7 - q)) 1 * 2 ^ (7 - q) % 256) (byte_of (marked n q)) in
+    eqb→eq (bit_or (b / 2 ^ (7 - r)) 1 * 2 ^ (7 - r) % 256) (byte_of (marked b r))
+    (below (f r) 256 (below (λ q. every_below (f q) 256) 8 tt r hr) b hb)
 
-mark_bits : (count : ℕ) → take (128 - count % 128) (bits (set (replicate 16 0) 0 128)) ≡ true ∷ replicate (zeros_for count) false
-unfolding zeros_for
-mark_bits count =
-    let e : 128 - count % 128 ≡ suc (127 - count % 128) = omega arith in
-    rw e (ones_first (127 - count % 128) (omega arith))
+zero_bytes : (m : ℕ) → pack_to m (replicate (m * 8) false) ≡ replicate m 0
+unfolding pack_to byte_of digit
+zero_bytes zero = refl
+zero_bytes (suc m) =
+    let e : suc m * 8 ≡ suc (suc (suc (suc (suc (suc (suc (suc (m * 8)))))))) = omega arith in
+    rw e (ap (λ (l : List ℕ). 0 ∷ l) (zero_bytes m))
 
-more_bytes : (count : ℕ) → bytes_for count ≤ bytes_for (padded_length count)
+byte_and_zeros : (x : List Bool) (m : ℕ) → length x ≡ 1 * 8 → pack (x ++ replicate (m * 8) false) ≡ byte_of x ∷ replicate m 0
+unfolding pack pack_to
+byte_and_zeros x m e =
+    pack-append 1 x (replicate (m * 8) false) e
+    ∙ rw (e, length-replicate, bytes_for_whole 1, bytes_for_whole m) (ap (λ (l : List ℕ). byte_of x ∷ l) (zero_bytes m))
+
+pub more_bytes : (count : ℕ) → bytes_for count ≤ bytes_for (padded_length count)
 unfolding padded_length bytes_for
 more_bytes count = omega arith
+
+-- The first bits of a list that goes on, padded: the bytes before that of the 1 bit, that byte, and bytes 0.
+module _ (l : List ℕ) (count : ℕ) (more : count / 8 < length l) (bytes : Bytes (take (count / 8) l)) where
+  first-bits : take count (bits l) ≡ bits (take (count / 8) l) ++ take (count % 8) (byte_bits (get_or l (count / 8) 0))
+  unfolding bits
+  first-bits =
+      let k = count / 8 in
+      let b = byte_bits (get_or l k 0) in
+      let all : count ≡ k * 8 + count % 8 = omega arith in
+      ap (λ (n : ℕ). take n (bits l)) all
+      ∙ rw (
+        take-add,
+        take-bits,
+        drop_bits,
+        drop-cons l k 0 more,
+        take-append-le (count % 8) b (bits (drop (suc k) l)) (rw length-byte_bits (omega arith)),
+      )
+
+  whole-byte : length (marked (get_or l (count / 8) 0) (count % 8)) ≡ 1 * 8
+  whole-byte = simp (length-append, length-replicate, length-take, length-byte_bits) (omega arith)
+
+  padded-bits : padded (take count (bits l)) ≡ bits (take (count / 8) l) ++ (marked (get_or l (count / 8) 0) (count % 8) ++ replicate ((15 - count / 8 % 16) * 8) false)
+  unfolding padded zeros_for
+  padded-bits =
+      let k = count / 8 in
+      let r = count % 8 in
+      let first = take r (byte_bits (get_or l k 0)) in
+      let ones = true ∷ replicate (7 - r) false in
+      let rest = replicate ((15 - k % 16) * 8) false in
+      let size : length (take count (bits l)) ≡ count = length-take-le count (bits l) (rw length-bits (omega arith)) in
+      let zeros : 127 - count % 128 ≡ (7 - r) + (15 - k % 16) * 8 = omega arith in
+      rw (size, zeros, first-bits, ← replicate-append-replicate (7 - r) ((15 - k % 16) * 8) false, append_assoc (bits (take k l)) first (ones ++ rest))
+      (ap (λ (t : List Bool). bits (take k l) ++ t) (sym (append_assoc first ones rest)))
+
+  pub padded-bytes : pack (padded (take count (bits l))) ≡ take (count / 8) l ++ byte_of (marked (get_or l (count / 8) 0) (count % 8)) ∷ replicate (15 - count / 8 % 16) 0
+  padded-bytes =
+      let k = count / 8 in
+      let byte = marked (get_or l k 0) (count % 8) in
+      let m = 15 - k % 16 in
+      ap pack padded-bits
+      ∙ pack-append k (bits (take k l)) (byte ++ replicate (m * 8) false) (length-bits (take k l) ∙ ap (λ (n : ℕ). n * 8) (length-take-le k l (omega arith)))
+      ∙ ap₂ (λ (a b : List ℕ). a ++ b) (pack-bits (take k l) bytes) (byte_and_zeros byte m whole-byte)
+
+-- an output whose block of the 1 bit is cleared
+abbrev pub cleared : List ℕ → ℕ → List ℕ
+cleared o count = paste o (count / 128 * 16) (replicate 16 0) 16
 
 module _ (s o : List ℕ) (count : ℕ) (there : count ≤ 8 * length s) where
   -- the text's bits, wherever its bytes were copied to
@@ -69,21 +128,47 @@ module _ (s o : List ℕ) (count : ℕ) (there : count ≤ 8 * length s) where
         take-take count (bytes_for count * 8) (bits s) (omega arith),
       )
 
-  enough : bytes_for count ≤ length s
+  whole-bytes : take (count / 8) (take (bytes_for count) s ++ drop (bytes_for count) o) ≡ take (count / 8) s
   unfolding bytes_for
-  enough = omega arith
+  whole-bytes =
+      take-append-le (count / 8) (take (bytes_for count) s) (drop (bytes_for count) o) (simp length-take (omega arith))
+      ∙ take-take (count / 8) (bytes_for count) s (omega arith)
 
-  behind : drop (bytes_for (count + suc (zeros_for count))) (take (bytes_for count) s ++ drop (bytes_for count) o) ≡ drop (bytes_for (padded_length count)) o
-  unfolding padded_length
-  behind = drop_front (take (bytes_for count) s) o {m = bytes_for (count + suc (zeros_for count))} (length-take-le (bytes_for count) s enough) (more_bytes count)
+  behind : drop (suc (count / 8)) (take (bytes_for count) s ++ drop (bytes_for count) o) ≡ drop (suc (count / 8)) o
+  unfolding bytes_for
+  behind = drop_front (take (bytes_for count) s) o {m = suc (count / 8)} (length-take-le (bytes_for count) s (omega arith)) (omega arith)
 
-  pub mark-put : {copied : List ℕ} → copied ≡ take (bytes_for count) s ++ drop (bytes_for count) o
-      → put_bits copied count (take (128 - count % 128) (bits (set (replicate 16 0) 0 128)))
-      ≡ pack (padded (fed_text s count)) ++ drop (bytes_for (padded_length count)) o
-  unfolding put_bits padded
-  mark-put e =
-      rw (e, mark_bits, copied-text, length-replicate, length_fed s count there)
-      (ap (λ (l : List ℕ). pack (fed_text s count ++ true ∷ replicate (zeros_for count) false) ++ l) behind)
+cleared-behind : (o : List ℕ) (count : ℕ) → bytes_for (padded_length count) ≤ length o
+    → drop (suc (count / 8)) (cleared o count) ≡ replicate (15 - count / 8 % 16) 0 ++ drop (bytes_for (padded_length count)) o
+unfolding bytes_for padded_length zeros_for
+cleared-behind o count room =
+    let at = count / 128 * 16 in
+    let j = suc (count / 8 % 16) in
+    let rest = drop (at + 16) o in
+    let front : length (take at o) ≡ at = length-take-le at o (omega arith) in
+    let place : suc (count / 8) ≡ at + j = omega arith in
+    let left : 16 - j ≡ 15 - count / 8 % 16 = omega arith in
+    let end : at + 16 ≡ (count + suc (127 - count % 128) + 7) / 8 = omega arith in
+    rw (place, append_assoc (take at o) (replicate 16 0) rest)
+    (rw front at (drop-append-add (take at o) (replicate 16 0 ++ rest) j)
+    ∙ drop-append-le j (replicate 16 0) rest (omega arith)
+    ∙ rw (drop-replicate, left, end))
+
+module _ (s o : List ℕ) (count : ℕ) (there : count ≤ 8 * length s) (room : bytes_for (padded_length count) ≤ length o) (bytes : Bytes s) where
+  pub mark-set : {l : List ℕ} {v : ℕ} → l ≡ take (bytes_for count) s ++ drop (bytes_for count) (cleared o count)
+      → v ≡ byte_of (marked (get_or l (count / 8) 0) (count % 8)) → count / 8 < length l
+      → set l (count / 8) v ≡ pack (padded (fed_text s count)) ++ drop (bytes_for (padded_length count)) o
+  mark-set {l} {v} copied byte inside =
+      let k = count / 8 in
+      let zeros = replicate (15 - k % 16) 0 in
+      let rest = drop (bytes_for (padded_length count)) o in
+      let front : take k l ≡ take k s = ap (take k) copied ∙ whole-bytes s (cleared o count) count there in
+      let text : take count (bits l) ≡ fed_text s count = ap (λ (m : List ℕ). take count (bits m)) copied ∙ copied-text s (cleared o count) count there in
+      let after : drop (suc k) l ≡ zeros ++ rest = ap (drop (suc k)) copied ∙ behind s (cleared o count) count there ∙ cleared-behind o count room in
+      let packed = padded-bytes l count inside (rw front (take_bytes k bytes)) in
+      set_split l k v inside
+      ∙ rw (after, byte) (sym (append_assoc (take k l) (byte_of (marked (get_or l k 0) (count % 8)) ∷ zeros) rest))
+      ∙ ap (λ (m : List ℕ). m ++ rest) (sym packed ∙ ap (λ (x : List Bool). pack (padded x)) text)
 
 -- ---- a text written into an output, read back from there
 module _ (out : List ℕ) (place : ℕ) (x : List Bool) (inside : place ≤ length out) (room : bytes_for (length x) ≤ length out - place) where

@@ -1,6 +1,6 @@
 // Pad: one 1 bit after the text, then the fewest 0 bits that reach a multiple of 128.
-ghost use Rattle.std.specs.Prelude.{◌≡◌, ◌++◌, ◌*◌, ◌≤◌, length, drop};
-ghost use Rattle.bits.specs.Texts.{bytes_for, pack};
+ghost use Rattle.std.specs.Prelude.{◌≡◌, ◌++◌, ◌∷◌, true, false, ◌*◌, ◌-◌, ◌≤◌, ◌<◌, length, take, drop, replicate};
+ghost use Rattle.bits.specs.Texts.{byte_bits, byte_of, bytes_for, pack};
 ghost use Rattle.modes.specs.Sessions.{fed_text};
 ghost use Rattle.questions.specs.Refusals.{number_in};
 ghost use Rattle.padding.specs.Padding.{padded, padded_length, max_pad_bits, pad_number, answered, PaddedBy};
@@ -34,17 +34,30 @@ fn ask_pad(lent: Lent) -> Result<(), Refusal>
     Ok(())
 }
 
-// The text's bytes, then from its last bit on a 1 bit and 0 bits up to the block's end.
+// The text's bytes, then from its last bit on a 1 bit and 0 bits up to the block's end. That block is cleared first.
 #[tactic(auto, unfolding(bits::specs::Texts::bytes_for, crate::specs::Padding::padded_length, crate::specs::Padding::zeros_for))]
 fn put_padded(input: &[u8], bits: usize, out: &mut [u8])
     requires { (bits ≤ 8 * length input.now) × (bits ≤ max_pad_bits) × (bytes_for (padded_length bits) ≤ length out.old) }
     ensures { out.new ≡ pack (padded (fed_text input.now bits)) ++ drop (bytes_for (padded_length bits)) out.old }
 {
-    let bytes = questions::bytes_for(bits);
-    out[..bytes].copy_from_slice(&input[..bytes]);
-    let mut mark = [0; Session::BLOCK];
-    mark[0] = 0x80;
-    bits::put_bits(out, bits, mark, BLOCK_BITS - bits % BLOCK_BITS);
+    let last = bits / BLOCK_BITS * Session::BLOCK;
+    out[last..last + Session::BLOCK].copy_from_slice(&[0; Session::BLOCK]);
+    // By index: `copy_from_slice` of a length that is not known is a call of C's memmove.
+    for i in 0..questions::bytes_for(bits) {
+        out[i] = input[i];
+    }
+    let mark = bits / 8;
+    out[mark] = marked(out[mark], bits % 8);
+}
+
+// A byte's first r bits, then a 1 bit, then 0 bits.
+#[tactic(auto, using(crate::proofs::PadLaws::marked_byte))]
+fn marked(byte: u8, r: usize) -> u8
+    requires { r < 8 }
+    ensures { result ≡ byte_of (take r (byte_bits byte) ++ true ∷ replicate (7 - r) false) }
+{
+    let zeros = 7 - r;
+    ((byte >> zeros) | 1) << zeros
 }
 
 // Pads the first `bits` bits of `input`, and writes the padded text from out[place] on. The answer is its length in

@@ -7,15 +7,15 @@ ghost use Rattle.padding.specs.Padding.{up_to_last_one, unpad_number, answered, 
 use modes::Session;
 use questions::{BLOCK_BITS, Refusal};
 
-// How many bits at a block's end are padding: its last 1 and the 0 bits after that. Where the first bit alone may be 1,
-// all 128 are, and that bit is not looked at: a block of 0 bits is read as 80 and fifteen 00.
+// How many bits at a block's end are padding: its last 1 and the 0 bits after that. A block of 0 bits is padding whole,
+// as 80 and fifteen 00 are.
 fn padding_bits(block: [u8; 16]) -> usize
     ensures { result ≡ 128 - pred (up_to_last_one (bits block) 128) }
 {
-    for n in 1..BLOCK_BITS {
-        let at = BLOCK_BITS - n;
-        if (block[at / 8] >> (7 - at % 8)) % 2 == 1 {
-            return n;
+    for n in 0..Session::BLOCK {
+        let byte = block[Session::BLOCK - 1 - n];
+        if byte != 0 {
+            return n * 8 + byte.trailing_zeros() as usize + 1;
         }
     }
     BLOCK_BITS
