@@ -81,6 +81,8 @@ impl TryFrom<HeldSession> for Session {
 
     ghost try_from_gives = { StandsFor };
 
+    // Put in line: no session is copied where the number is no mode's, and none before its parts are looked at.
+    #[inline(always)]
     fn try_from(held: HeldSession) -> Result<Session, NoMode> {
         Mode::try_from(held.mode)?;
         Ok(session_of(held))

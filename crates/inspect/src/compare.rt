@@ -1,6 +1,6 @@
 // Whether two sessions are alike. Their units and their closing are not compared.
 ghost use Rattle.std.specs.Prelude.{◌≡◌};
-ghost use Rattle.inspect.specs.Alike.{keys_used, same_settings, alike_to};
+ghost use Rattle.inspect.specs.Alike.{keys_used, same_first, same_settings, alike_to};
 
 use modes::Session;
 
@@ -23,10 +23,18 @@ fn same_settings(a: Session, b: Session) -> bool
         && a.rounds == b.rounds
 }
 
-#[tactic(auto, using(crate::proofs::SameLaws::first_equal, crate::proofs::SameLaws::whole_equal), unfolding(crate::specs::Alike::alike_to, crate::specs::Alike::keys_used))]
+// By value: the compiler copies the keys then only once the settings are the same.
+#[tactic(auto, using(crate::proofs::SameLaws::first_equal), unfolding(crate::specs::Alike::keys_used))]
+fn same_keys(a: [u8; 240], b: [u8; 240], rounds: usize) -> bool
+    ensures { result ≡ same_first (keys_used rounds) a b }
+{
+    let used = keys_used(rounds);
+    a[..used] == b[..used]
+}
+
+#[tactic(auto, using(crate::proofs::SameLaws::whole_equal), unfolding(crate::specs::Alike::alike_to))]
 pub fn alike(a: Session, b: Session) -> bool
     ensures { result ≡ alike_to a b }
 {
-    let used = keys_used(a.rounds);
-    same_settings(a, b) && a.keys[..used] == b.keys[..used] && a.register == b.register
+    same_settings(a, b) && same_keys(a.keys, b.keys, a.rounds) && a.register == b.register
 }
