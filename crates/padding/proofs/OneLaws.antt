@@ -62,13 +62,17 @@ one_found_at x (suc k) u e = go (get_or x k false) refl e (one_found_at x k u)
 -- ---- a block, bit by bit from its end
 
 module _ (b : List ℕ) (k : ℕ) where
-  bit-passed : (get_or b (k / 8) 0 / 2 ^ (7 - k % 8) % 2 ≡ 1 → ⊥) → up_to_last_one (bits b) (suc k) ≡ up_to_last_one (bits b) k
+  pub bit-passed : (get_or b (k / 8) 0 / 2 ^ (7 - k % 8) % 2 ≡ 1 → ⊥) → up_to_last_one (bits b) (suc k) ≡ up_to_last_one (bits b) k
   unfolding bit
   bit-passed zero_bit = passed (bits b) k (bit_at b k ∙ ne_eqb (get_or b (k / 8) 0 / 2 ^ (7 - k % 8) % 2) 1 zero_bit)
 
-  bit_found : get_or b (k / 8) 0 / 2 ^ (7 - k % 8) % 2 ≡ 1 → up_to_last_one (bits b) (suc k) ≡ suc k
+  pub bit_found : get_or b (k / 8) 0 / 2 ^ (7 - k % 8) % 2 ≡ 1 → up_to_last_one (bits b) (suc k) ≡ suc k
   unfolding bit
   bit_found one_bit = found (bits b) k (bit_at b k ∙ eq-eqb (get_or b (k / 8) 0 / 2 ^ (7 - k % 8) % 2) 1 one_bit)
+
+-- no bit stands before the first one
+pub before_first : (x : List Bool) → pred (up_to_last_one x 1) ≡ 0
+before_first x = omega (arith, at_most x 1)
 
 -- ---- and byte by byte
 
